@@ -1,0 +1,2 @@
+// eBPF instructions: their eight bytes, their forms, and a machine that carries them out.
+pub mod insn;

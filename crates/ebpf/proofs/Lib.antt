@@ -1,2 +1,4 @@
 pub mod Halves
 pub mod Coding
+pub mod Numbers
+pub mod Acts

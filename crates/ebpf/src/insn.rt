@@ -76,13 +76,14 @@ pub enum Fetched {
     Nothing,
 }
 
-fn le16(a: u8, b: u8) -> u16
+// Two and four bytes, the low one first.
+pub fn le16(a: u8, b: u8) -> u16
     ensures { λ r. ⌜ r ≡ a + b * 256 ⌝ }
 {
     (a as u16) + (b as u16) * 256
 }
 
-fn le32(a: u8, b: u8, c: u8, d: u8) -> u32
+pub fn le32(a: u8, b: u8, c: u8, d: u8) -> u32
     ensures { λ r. ⌜ r ≡ a + b * 256 + c * 65536 + d * 16777216 ⌝ }
 {
     (a as u32) + (b as u32) * 256 + (c as u32) * 65536 + (d as u32) * 16777216

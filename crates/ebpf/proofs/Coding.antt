@@ -29,12 +29,9 @@ pub fetch-full : (s : List ℕ) (at : ℕ) → length s < at + 8 → Nothing ≡
 unfolding fetchAt
 fetch-full s at h = simp (lt-leb (at + 8) (length s) h)
 
-pub fetch-room : (s : List ℕ) (at : ℕ) → at + 8 ≤ length s → (o m : ℕ)
-    → o ≡ getD s (at + 2) 0 + getD s (at + 3) 0 * 256
-    → m ≡ getD s (at + 4) 0 + getD s (at + 5) 0 * 256 + getD s (at + 6) 0 * 65536 + getD s (at + 7) 0 * 16777216
-    → Here (record { code = getD s at 0; regs = getD s (at + 1) 0; off = o; imm = m }) ≡ fetchAt s at
-unfolding fetchAt insnAt
-fetch-room s at h o m eo em = simp (le-leb (at + 8) (length s) h, eo, em)
+pub fetch-room : (s : List ℕ) (at : ℕ) (i : Insn) → at + 8 ≤ length s → i ≡ insnAt s at → Here i ≡ fetchAt s at
+unfolding fetchAt
+fetch-room s at i h e = simp (le-leb (at + 8) (length s) h, e)
 
 -- what stands in a run of stores
 sets-get : (s : List ℕ) (at : ℕ) (vs : List ℕ) (k : ℕ) → at + length vs ≤ length s → k < length vs

@@ -387,7 +387,7 @@ fn exit(regs: u8, off: u16, imm: u32, frame: &[u8], start: u64, values: &[u64], 
 }
 
 // What an instruction does, by its opcode.
-pub fn act_of(i: Insn, frame: &[u8], start: u64, values: &[u64], written: &[bool]) -> Act
+pub(crate) fn act_of(i: Insn, frame: &[u8], start: u64, values: &[u64], written: &[bool]) -> Act
     ensures { λ r. ⌜ r ≡ actOf (formOf i) (now (frame .entry)) start (regsOf (now (values .entry)) (now (written .entry))) ⌝ }
 {
     let code = i.code;

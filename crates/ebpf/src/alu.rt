@@ -4,7 +4,7 @@ ghost use Prim.Native.Nat.{_*_, _%_, _^_};
 ghost use Rattle.ebpf.specs.Alu.{sext16, sext32, alu32, alu64, swapped, compares};
 
 // 16 bits widened to 64 with their sign.
-pub fn wide16(x: u16) -> u64
+pub(crate) fn wide16(x: u16) -> u64
     ensures { λ r. ⌜ r ≡ sext16 x ⌝ }
 {
     if x < 0x8000 {
@@ -15,7 +15,7 @@ pub fn wide16(x: u16) -> u64
 }
 
 // 32 bits widened to 64 with their sign.
-pub fn wide32(x: u32) -> u64
+pub(crate) fn wide32(x: u32) -> u64
     ensures { λ r. ⌜ r ≡ sext32 x ⌝ }
 {
     if x < 0x8000_0000 {
@@ -26,21 +26,21 @@ pub fn wide32(x: u32) -> u64
 }
 
 // The low 32 bits.
-pub fn low32(x: u64) -> u32
+pub(crate) fn low32(x: u64) -> u32
     ensures { λ r. ⌜ r ≡ x % 2 ^ 32 ⌝ }
 {
     (x % 0x1_0000_0000) as u32
 }
 
 // The product modulo 2^32, through 64 bits.
-pub fn mul32(a: u32, b: u32) -> u32
+pub(crate) fn mul32(a: u32, b: u32) -> u32
     ensures { λ r. ⌜ r ≡ a * b % 2 ^ 32 ⌝ }
 {
     ((a as u64) * (b as u64) % 0x1_0000_0000) as u32
 }
 
 // The 32-bit operation whose number is the high half of the opcode.
-pub fn op32(operation: u8, a: u32, b: u32) -> u32
+pub(crate) fn op32(operation: u8, a: u32, b: u32) -> u32
     ensures { λ r. ⌜ r ≡ alu32 operation a b ⌝ }
 {
     match operation {
@@ -58,7 +58,7 @@ pub fn op32(operation: u8, a: u32, b: u32) -> u32
 }
 
 // The 64-bit operations: add, subtract, move.
-pub fn op64(operation: u8, a: u64, b: u64) -> u64
+pub(crate) fn op64(operation: u8, a: u64, b: u64) -> u64
     ensures { λ r. ⌜ r ≡ alu64 operation a b ⌝ }
 {
     match operation {
@@ -69,7 +69,7 @@ pub fn op64(operation: u8, a: u64, b: u64) -> u64
 }
 
 // The low 16 or 32 bits in the other byte order.
-pub fn swap(bits: u32, x: u64) -> u64
+pub(crate) fn swap(bits: u32, x: u64) -> u64
     ensures { λ r. ⌜ r ≡ swapped bits x ⌝ }
 {
     if bits == 16 {
@@ -80,7 +80,7 @@ pub fn swap(bits: u32, x: u64) -> u64
 }
 
 // The comparison whose number is the high half of the opcode, of unsigned numbers.
-pub fn compare(operation: u8, a: u64, b: u64) -> bool
+pub(crate) fn compare(operation: u8, a: u64, b: u64) -> bool
     ensures { λ r. ⌜ r ≡ compares operation a b ⌝ }
 {
     match operation {

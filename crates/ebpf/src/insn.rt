@@ -1,10 +1,11 @@
 // Port of ebpf.rs: an instruction, its eight bytes, and the forms that a filter program is made of.
 // `off` and `imm` are the bits of the Rust's i16 and i32: a negative number is its two's complement.
 ghost use mathlib.Core.Path.{_≡_};
-ghost use Prim.Native.Nat.{_+_, _*_};
+ghost use Prim.Native.Nat.{_+_, _*_, _≤_};
+ghost use lib.ListN.{length};
 ghost use Rattle.ebpf.specs.Opcode.{ADD, SUB, MUL, DIV, OR, AND, LSH, RSH, XOR, MOV, WORD, HALF, BYTE};
 ghost use Rattle.ebpf.specs.Opcode.{JMP, JMP32, JEQ, JNE, JGT, JGE, JLT, JLE, JSET};
-ghost use Rattle.ebpf.specs.Insn.{new, dstOf, srcOf, to-le-bytes, fetchAt, storedAt};
+ghost use Rattle.ebpf.specs.Insn.{new, dstOf, srcOf, to-le-bytes, insnAt, fetchAt, storedAt};
 ghost use Rattle.ebpf.specs.Insn.{alu64-reg, alu64-imm, alu32-imm, to-be, ldx};
 ghost use Rattle.ebpf.specs.Insn.{jump-imm, jump-reg, jump-always, exit-insn};
 
@@ -77,16 +78,29 @@ pub enum Fetched {
 }
 
 // Two and four bytes, the low one first.
-pub fn le16(a: u8, b: u8) -> u16
+pub(crate) fn le16(a: u8, b: u8) -> u16
     ensures { λ r. ⌜ r ≡ a + b * 256 ⌝ }
 {
     (a as u16) + (b as u16) * 256
 }
 
-pub fn le32(a: u8, b: u8, c: u8, d: u8) -> u32
+pub(crate) fn le32(a: u8, b: u8, c: u8, d: u8) -> u32
     ensures { λ r. ⌜ r ≡ a + b * 256 + c * 65536 + d * 16777216 ⌝ }
 {
     (a as u32) + (b as u32) * 256 + (c as u32) * 65536 + (d as u32) * 16777216
+}
+
+// The instruction whose eight bytes start at `at`.
+pub(crate) fn insn_at(s: &[u8], at: usize) -> Insn
+    requires { ⌜ at + 8 ≤ length (now s) ⌝ }
+    ensures { λ r. ⌜ r ≡ insnAt (now (s .entry)) at ⌝ }
+{
+    Insn {
+        code: s[at],
+        regs: s[at + 1],
+        off: le16(s[at + 2], s[at + 3]),
+        imm: le32(s[at + 4], s[at + 5], s[at + 6], s[at + 7]),
+    }
 }
 
 impl Insn {
@@ -416,11 +430,6 @@ impl Insn {
         if n - 8 < at {
             return Fetched::Nothing;
         }
-        Fetched::Here(Insn {
-            code: s[at],
-            regs: s[at + 1],
-            off: le16(s[at + 2], s[at + 3]),
-            imm: le32(s[at + 4], s[at + 5], s[at + 6], s[at + 7]),
-        })
+        Fetched::Here(insn_at(s, at))
     }
 }

@@ -9,7 +9,7 @@ pub struct Regs {
 }
 
 // Whether register `i` has been written.
-pub fn known(written: &[bool], i: u8) -> bool
+pub(crate) fn known(written: &[bool], i: u8) -> bool
     ensures { λ r. ⌜ r ≡ getD (now (written .entry)) i false ⌝ }
 {
     let k = i as usize;
@@ -17,7 +17,7 @@ pub fn known(written: &[bool], i: u8) -> bool
 }
 
 // What register `i` holds.
-pub fn value(values: &[u64], i: u8) -> u64
+pub(crate) fn value(values: &[u64], i: u8) -> u64
     ensures { λ r. ⌜ r ≡ getD (now (values .entry)) i 0 ⌝ }
 {
     let k = i as usize;
@@ -25,7 +25,7 @@ pub fn value(values: &[u64], i: u8) -> u64
 }
 
 // Register `i` now holds `v`.
-pub fn write(values: &mut [u64], i: u8, v: u64)
+pub(crate) fn write(values: &mut [u64], i: u8, v: u64)
     ensures { λ r. ⌜ now (values .exit) ≡ set (now (values .entry)) i v ⌝ }
 {
     let k = i as usize;
@@ -35,7 +35,7 @@ pub fn write(values: &mut [u64], i: u8, v: u64)
 }
 
 // Register `i` has now been written.
-pub fn mark(written: &mut [bool], i: u8)
+pub(crate) fn mark(written: &mut [bool], i: u8)
     ensures { λ r. ⌜ now (written .exit) ≡ set (now (written .entry)) i true ⌝ }
 {
     let k = i as usize;

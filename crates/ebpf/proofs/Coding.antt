@@ -20,8 +20,8 @@ store-full s at i h = simp (lt-leb (at + 8) (length s) h)
 -- the eight stores, as straight-line code leaves them
 pub store-room : (s : List ℕ) (at : ℕ) (i : Insn) (b : List ℕ) → at + 8 ≤ length s → b ≡ to-le-bytes i
     → set (set (set (set (set (set (set (set s at (getD b 0 0)) (at + 1) (getD b 1 0)) (at + 2) (getD b 2 0)) (at + 3) (getD b 3 0))
-        (at + 4) (getD b 4 0)) (at + 5) (getD b 5 0)) (at + 6) (getD b 6 0)) (at + 7) (getD b 7 0)
-      ≡ storedAt s at i
+    (at + 4) (getD b 4 0)) (at + 5) (getD b 5 0)) (at + 6) (getD b 6 0)) (at + 7) (getD b 7 0)
+    ≡ storedAt s at i
 unfolding storedAt to-le-bytes
 store-room s at i b h e = simp (le-leb (at + 8) (length s) h, e) (simp towards-suc)
 
@@ -39,8 +39,8 @@ sets-get : (s : List ℕ) (at : ℕ) (vs : List ℕ) (k : ℕ) → at + length v
 sets-get s at vs k h hk =
     ap (λ (l : List ℕ). getD l (at + k) 0) (sets-eq vs s at h)
     ∙ subst (λ (n : ℕ). getD ((take at s ++ vs) ++ drop (at + length vs) s) (n + k) 0 ≡ getD vs k 0) (length-take-le at s (omega arith))
-        (List·getD-append (take at s ++ vs) (drop (at + length vs) s) 0 (length (take at s) + k) (simp length-append (omega arith))
-          ∙ getD-append-add (take at s) vs k 0)
+    (List·getD-append (take at s ++ vs) (drop (at + length vs) s) 0 (length (take at s) + k) (simp length-append (omega arith))
+    ∙ getD-append-add (take at s) vs k 0)
 
 -- an instruction of the widths that its struct has
 pub record Sized (i : Insn) : Type 0 where
@@ -87,9 +87,12 @@ unfolding insnAt storedAt to-le-bytes
 read-written s at h b =
     let x2 = b (at + 2) in let x3 = b (at + 3) in let x4 = b (at + 4) in let x5 = b (at + 5) in let x6 = b (at + 6) in let x7 = b (at + 7) in
     rw (le-leb (at + 8) (length s) h)
-    (simp (low16 _ (getD s (at + 3) 0) x2, high16 _ (getD s (at + 3) 0) x2,
+    (simp (
+      low16 _ (getD s (at + 3) 0) x2,
+      high16 _ (getD s (at + 3) 0) x2,
       byte0 _ (getD s (at + 5) 0) (getD s (at + 6) 0) (getD s (at + 7) 0) x4,
       byte1 _ _ (getD s (at + 6) 0) (getD s (at + 7) 0) x4 x5,
       byte2 _ _ _ (getD s (at + 7) 0) x4 x5 x6,
-      byte3 _ _ _ (getD s (at + 7) 0) x4 x5 x6)
+      byte3 _ _ _ (getD s (at + 7) 0) x4 x5 x6,
+    )
     (simp (towards-suc, set-getD)))

@@ -2,3 +2,4 @@ pub mod Halves
 pub mod Coding
 pub mod Numbers
 pub mod Acts
+pub mod Runs

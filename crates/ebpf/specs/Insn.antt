@@ -64,7 +64,7 @@ insnAt s at =
       code = getD s at 0;
       regs = getD s (at + 1) 0;
       off = getD s (at + 2) 0 + getD s (at + 3) 0 * 256;
-      imm = getD s (at + 4) 0 + getD s (at + 5) 0 * 256 + getD s (at + 6) 0 * 65536 + getD s (at + 7) 0 * 16777216
+      imm = getD s (at + 4) 0 + getD s (at + 5) 0 * 256 + getD s (at + 6) 0 * 65536 + getD s (at + 7) 0 * 16777216;
     }
 
 -- Reading at `at`: the instruction, where its eight bytes are there.

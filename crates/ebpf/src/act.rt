@@ -40,7 +40,11 @@ fn not_written() -> Act
 fn branch_to(holds: bool, off: u16) -> Act
     ensures { λ r. ⌜ r ≡ taken holds off ⌝ }
 {
-    if holds { Act::Jumps { off } } else { Act::Falls }
+    if holds {
+        Act::Jumps { off }
+    } else {
+        Act::Falls
+    }
 }
 
 // A register other than R1.
@@ -86,7 +90,10 @@ fn context_act(len: u64, start: u64, dst: u8, off: u16) -> Act
 {
     match off {
         0 => Act::Writes { dst, value: start },
-        4 => Act::Writes { dst, value: std::num::wrapping_add_u64(start, len) },
+        4 => Act::Writes {
+            dst,
+            value: std::num::wrapping_add_u64(start, len),
+        },
         _ => outside_frame(),
     }
 }
@@ -107,10 +114,22 @@ fn frame_act(frame: &[u8], start: u64, size: u8, dst: u8, at: u64) -> Act
     if len - p < size as u64 {
         return outside_frame();
     }
-    Act::Writes { dst, value: word(frame, p as usize, size) }
+    Act::Writes {
+        dst,
+        value: word(frame, p as usize, size),
+    }
 }
 
-fn load_act(frame: &[u8], start: u64, values: &[u64], written: &[bool], size: u8, dst: u8, src: u8, off: u16) -> Act
+fn load_act(
+    frame: &[u8],
+    start: u64,
+    values: &[u64],
+    written: &[bool],
+    size: u8,
+    dst: u8,
+    src: u8,
+    off: u16,
+) -> Act
     requires { ⌜ Width size ⌝ }
     ensures { λ r. ⌜ r ≡ loadAct (now (frame .entry)) start (regsOf (now (values .entry)) (now (written .entry))) size dst src off ⌝ }
 {
@@ -126,7 +145,11 @@ fn load_act(frame: &[u8], start: u64, values: &[u64], written: &[bool], size: u8
 fn is_readable(values: &[u64], written: &[bool], operation: u8, dst: u8) -> bool
     ensures { λ r. ⌜ r ≡ readable (regsOf (now (values .entry)) (now (written .entry))) operation dst ⌝ }
 {
-    if operation == 11 { true } else { regs::known(written, dst) }
+    if operation == 11 {
+        true
+    } else {
+        regs::known(written, dst)
+    }
 }
 
 fn reg64_act(values: &[u64], written: &[bool], operation: u8, dst: u8, src: u8) -> Act
@@ -135,7 +158,10 @@ fn reg64_act(values: &[u64], written: &[bool], operation: u8, dst: u8, src: u8) 
     if regs::known(written, src) {
         if is_readable(values, written, operation, dst) {
             let a = regs::value(values, dst);
-            Act::Writes { dst, value: alu::op64(operation, a, regs::value(values, src)) }
+            Act::Writes {
+                dst,
+                value: alu::op64(operation, a, regs::value(values, src)),
+            }
         } else {
             not_written()
         }
@@ -148,7 +174,10 @@ fn imm64_act(values: &[u64], written: &[bool], operation: u8, dst: u8, imm: u32)
     ensures { λ r. ⌜ r ≡ imm64Act (regsOf (now (values .entry)) (now (written .entry))) operation dst imm ⌝ }
 {
     if is_readable(values, written, operation, dst) {
-        Act::Writes { dst, value: alu::op64(operation, regs::value(values, dst), alu::wide32(imm)) }
+        Act::Writes {
+            dst,
+            value: alu::op64(operation, regs::value(values, dst), alu::wide32(imm)),
+        }
     } else {
         not_written()
     }
@@ -159,7 +188,10 @@ fn imm32_act(values: &[u64], written: &[bool], operation: u8, dst: u8, imm: u32)
 {
     if regs::known(written, dst) {
         let v = alu::op32(operation, alu::low32(regs::value(values, dst)), imm);
-        Act::Writes { dst, value: v as u64 }
+        Act::Writes {
+            dst,
+            value: v as u64,
+        }
     } else {
         not_written()
     }
@@ -169,14 +201,25 @@ fn swap_act(values: &[u64], written: &[bool], dst: u8, bits: u32) -> Act
     ensures { λ r. ⌜ r ≡ swapAct (regsOf (now (values .entry)) (now (written .entry))) dst bits ⌝ }
 {
     if regs::known(written, dst) {
-        Act::Writes { dst, value: alu::swap(bits, regs::value(values, dst)) }
+        Act::Writes {
+            dst,
+            value: alu::swap(bits, regs::value(values, dst)),
+        }
     } else {
         not_written()
     }
 }
 
 // Class 5 compares 64 bits with the widened immediate, class 6 the low 32 bits with the immediate.
-fn branch_act(values: &[u64], written: &[bool], class: u8, operation: u8, dst: u8, imm: u32, off: u16) -> Act
+fn branch_act(
+    values: &[u64],
+    written: &[bool],
+    class: u8,
+    operation: u8,
+    dst: u8,
+    imm: u32,
+    off: u16,
+) -> Act
     ensures { λ r. ⌜ r ≡ branchAct (regsOf (now (values .entry)) (now (written .entry))) class operation dst imm off ⌝ }
 {
     if regs::known(written, dst) {
@@ -191,7 +234,14 @@ fn branch_act(values: &[u64], written: &[bool], class: u8, operation: u8, dst: u
     }
 }
 
-fn branch_reg_act(values: &[u64], written: &[bool], operation: u8, dst: u8, src: u8, off: u16) -> Act
+fn branch_reg_act(
+    values: &[u64],
+    written: &[bool],
+    operation: u8,
+    dst: u8,
+    src: u8,
+    off: u16,
+) -> Act
     ensures { λ r. ⌜ r ≡ branchRegAct (regsOf (now (values .entry)) (now (written .entry))) operation dst src off ⌝ }
 {
     if regs::known(written, dst) {
@@ -210,14 +260,26 @@ fn exit_act(values: &[u64], written: &[bool]) -> Act
     ensures { λ r. ⌜ r ≡ exitAct (regsOf (now (values .entry)) (now (written .entry))) ⌝ }
 {
     if regs::known(written, 0) {
-        Act::Halts { stop: 0, r0: regs::value(values, 0) }
+        Act::Halts {
+            stop: 0,
+            r0: regs::value(values, 0),
+        }
     } else {
         not_written()
     }
 }
 
 // Loads: from the context by words, from the frame by words, halves and bytes.
-fn load(size: u8, regs: u8, off: u16, imm: u32, frame: &[u8], start: u64, values: &[u64], written: &[bool]) -> Act
+fn load(
+    size: u8,
+    regs: u8,
+    off: u16,
+    imm: u32,
+    frame: &[u8],
+    start: u64,
+    values: &[u64],
+    written: &[bool],
+) -> Act
     requires { ⌜ Width size ⌝ }
     ensures { λ r. ⌜ r ≡ actOf (loadForm size regs off imm) (now (frame .entry)) start (regsOf (now (values .entry)) (now (written .entry))) ⌝ }
 {
@@ -245,7 +307,16 @@ fn load(size: u8, regs: u8, off: u16, imm: u32, frame: &[u8], start: u64, values
 }
 
 // 64-bit arithmetic with a register.
-fn reg64(operation: u8, regs: u8, off: u16, imm: u32, frame: &[u8], start: u64, values: &[u64], written: &[bool]) -> Act
+fn reg64(
+    operation: u8,
+    regs: u8,
+    off: u16,
+    imm: u32,
+    frame: &[u8],
+    start: u64,
+    values: &[u64],
+    written: &[bool],
+) -> Act
     ensures { λ r. ⌜ r ≡ actOf (reg64Form operation regs off imm) (now (frame .entry)) start (regsOf (now (values .entry)) (now (written .entry))) ⌝ }
 {
     if off == 0 {
@@ -268,7 +339,16 @@ fn reg64(operation: u8, regs: u8, off: u16, imm: u32, frame: &[u8], start: u64, 
 }
 
 // 64-bit arithmetic with an immediate.
-fn imm64(operation: u8, regs: u8, off: u16, imm: u32, frame: &[u8], start: u64, values: &[u64], written: &[bool]) -> Act
+fn imm64(
+    operation: u8,
+    regs: u8,
+    off: u16,
+    imm: u32,
+    frame: &[u8],
+    start: u64,
+    values: &[u64],
+    written: &[bool],
+) -> Act
     ensures { λ r. ⌜ r ≡ actOf (imm64Form operation regs off imm) (now (frame .entry)) start (regsOf (now (values .entry)) (now (written .entry))) ⌝ }
 {
     if off == 0 {
@@ -283,7 +363,16 @@ fn imm64(operation: u8, regs: u8, off: u16, imm: u32, frame: &[u8], start: u64, 
 }
 
 // 32-bit arithmetic with an immediate.
-fn imm32(operation: u8, regs: u8, off: u16, imm: u32, frame: &[u8], start: u64, values: &[u64], written: &[bool]) -> Act
+fn imm32(
+    operation: u8,
+    regs: u8,
+    off: u16,
+    imm: u32,
+    frame: &[u8],
+    start: u64,
+    values: &[u64],
+    written: &[bool],
+) -> Act
     ensures { λ r. ⌜ r ≡ actOf (imm32Form operation regs off imm) (now (frame .entry)) start (regsOf (now (values .entry)) (now (written .entry))) ⌝ }
 {
     if off == 0 {
@@ -302,7 +391,15 @@ fn imm32(operation: u8, regs: u8, off: u16, imm: u32, frame: &[u8], start: u64, 
 }
 
 // Byte swaps to big-endian.
-fn swap_bytes(regs: u8, off: u16, imm: u32, frame: &[u8], start: u64, values: &[u64], written: &[bool]) -> Act
+fn swap_bytes(
+    regs: u8,
+    off: u16,
+    imm: u32,
+    frame: &[u8],
+    start: u64,
+    values: &[u64],
+    written: &[bool],
+) -> Act
     ensures { λ r. ⌜ r ≡ actOf (swapForm regs off imm) (now (frame .entry)) start (regsOf (now (values .entry)) (now (written .entry))) ⌝ }
 {
     if off == 0 {
@@ -323,7 +420,15 @@ fn swap_bytes(regs: u8, off: u16, imm: u32, frame: &[u8], start: u64, values: &[
 }
 
 // The jump that is always taken.
-fn jump(regs: u8, off: u16, imm: u32, frame: &[u8], start: u64, values: &[u64], written: &[bool]) -> Act
+fn jump(
+    regs: u8,
+    off: u16,
+    imm: u32,
+    frame: &[u8],
+    start: u64,
+    values: &[u64],
+    written: &[bool],
+) -> Act
     ensures { λ r. ⌜ r ≡ actOf (jumpForm regs off imm) (now (frame .entry)) start (regsOf (now (values .entry)) (now (written .entry))) ⌝ }
 {
     if regs == 0 {
@@ -338,7 +443,17 @@ fn jump(regs: u8, off: u16, imm: u32, frame: &[u8], start: u64, values: &[u64], 
 }
 
 // Jumps that compare with an immediate.
-fn branch(class: u8, operation: u8, regs: u8, off: u16, imm: u32, frame: &[u8], start: u64, values: &[u64], written: &[bool]) -> Act
+fn branch(
+    class: u8,
+    operation: u8,
+    regs: u8,
+    off: u16,
+    imm: u32,
+    frame: &[u8],
+    start: u64,
+    values: &[u64],
+    written: &[bool],
+) -> Act
     ensures { λ r. ⌜ r ≡ actOf (branchForm class operation regs off imm) (now (frame .entry)) start (regsOf (now (values .entry)) (now (written .entry))) ⌝ }
 {
     if is_plain(regs) {
@@ -349,7 +464,16 @@ fn branch(class: u8, operation: u8, regs: u8, off: u16, imm: u32, frame: &[u8], 
 }
 
 // Jumps that compare with a register.
-fn branch_reg(operation: u8, regs: u8, off: u16, imm: u32, frame: &[u8], start: u64, values: &[u64], written: &[bool]) -> Act
+fn branch_reg(
+    operation: u8,
+    regs: u8,
+    off: u16,
+    imm: u32,
+    frame: &[u8],
+    start: u64,
+    values: &[u64],
+    written: &[bool],
+) -> Act
     ensures { λ r. ⌜ r ≡ actOf (branchRegForm operation regs off imm) (now (frame .entry)) start (regsOf (now (values .entry)) (now (written .entry))) ⌝ }
 {
     if imm == 0 {
@@ -368,7 +492,15 @@ fn branch_reg(operation: u8, regs: u8, off: u16, imm: u32, frame: &[u8], start: 
 }
 
 // The exit.
-fn exit(regs: u8, off: u16, imm: u32, frame: &[u8], start: u64, values: &[u64], written: &[bool]) -> Act
+fn exit(
+    regs: u8,
+    off: u16,
+    imm: u32,
+    frame: &[u8],
+    start: u64,
+    values: &[u64],
+    written: &[bool],
+) -> Act
     ensures { λ r. ⌜ r ≡ actOf (exitForm regs off imm) (now (frame .entry)) start (regsOf (now (values .entry)) (now (written .entry))) ⌝ }
 {
     if regs == 0 {

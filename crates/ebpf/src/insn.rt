@@ -11,57 +11,91 @@ ghost use Rattle.ebpf.specs.Insn.{jump-imm, jump-reg, jump-always, exit-
 
 // Instruction classes, the low three bits of the opcode.
 pub const BPF_LDX: u8 = 0x01;
+
 pub const BPF_ALU: u8 = 0x04;
+
 pub const BPF_JMP: u8 = 0x05;
+
 pub const BPF_JMP32: u8 = 0x06;
+
 pub const BPF_ALU64: u8 = 0x07;
 
 // Size and mode of a load.
 pub const BPF_W: u8 = 0x00;
+
 pub const BPF_H: u8 = 0x08;
+
 pub const BPF_B: u8 = 0x10;
+
 pub const BPF_MEM: u8 = 0x60;
 
 // Source operand: the immediate or the source register.
 pub const BPF_K: u8 = 0x00;
+
 pub const BPF_X: u8 = 0x08;
 
 // Arithmetic operations, the high half of the opcode.
 pub const BPF_ADD: u8 = 0x00;
+
 pub const BPF_SUB: u8 = 0x10;
+
 pub const BPF_MUL: u8 = 0x20;
+
 pub const BPF_DIV: u8 = 0x30;
+
 pub const BPF_OR: u8 = 0x40;
+
 pub const BPF_AND: u8 = 0x50;
+
 pub const BPF_LSH: u8 = 0x60;
+
 pub const BPF_RSH: u8 = 0x70;
+
 pub const BPF_XOR: u8 = 0xa0;
+
 pub const BPF_MOV: u8 = 0xb0;
+
 pub const BPF_END: u8 = 0xd0;
+
 pub const BPF_TO_BE: u8 = 0x08;
 
 // Jump operations, the high half of the opcode.
 pub const BPF_JA: u8 = 0x00;
+
 pub const BPF_JEQ: u8 = 0x10;
+
 pub const BPF_JGT: u8 = 0x20;
+
 pub const BPF_JGE: u8 = 0x30;
+
 pub const BPF_JSET: u8 = 0x40;
+
 pub const BPF_JNE: u8 = 0x50;
+
 pub const BPF_JLT: u8 = 0xa0;
+
 pub const BPF_JLE: u8 = 0xb0;
+
 pub const BPF_EXIT: u8 = 0x90;
 
 // R0 is the return value, R1 the context, R2 and R3 the frame's start and end, R4 to R6 scratch.
 pub const R0: u8 = 0;
+
 pub const R1: u8 = 1;
+
 pub const R2: u8 = 2;
+
 pub const R3: u8 = 3;
+
 pub const R4: u8 = 4;
+
 pub const R5: u8 = 5;
+
 pub const R6: u8 = 6;
 
 // What an XDP program returns.
 pub const XDP_DROP: u32 = 1;
+
 pub const XDP_PASS: u32 = 2;
 
 pub struct Insn {

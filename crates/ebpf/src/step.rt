@@ -25,12 +25,25 @@ pub struct Turn {
 }
 
 // What the instruction at place `pc` does.
-pub(crate) fn act_at(program: &[u8], frame: &[u8], start: u64, values: &[u64], written: &[bool], pc: u64) -> Act
+pub(crate) fn act_at(
+    program: &[u8],
+    frame: &[u8],
+    start: u64,
+    values: &[u64],
+    written: &[bool],
+    pc: u64,
+) -> Act
     ensures { λ r. ⌜ r ≡ actAt (now (program .entry)) (now (frame .entry)) start (regsOf (now (values .entry)) (now (written .entry))) pc ⌝ }
 {
     let n = (program.len() / 8) as u64;
     if pc < n {
-        act::act_of(insn::insn_at(program, (pc * 8) as usize), frame, start, values, written)
+        act::act_of(
+            insn::insn_at(program, (pc * 8) as usize),
+            frame,
+            start,
+            values,
+            written,
+        )
     } else {
         Act::Halts { stop: 33, r0: 0 }
     }
@@ -85,6 +98,12 @@ pub fn step(program: &[u8], frame: &[u8], start: u64, s: State) -> Turn
     let pc = s.pc;
     let a = act_at(program, frame, start, &values, &written, pc);
     write_back(a, &mut values, &mut written);
-    let after = State { regs: Regs { values, written }, pc: place_after(a, pc) };
-    Turn { state: after, status: status_of(a) }
+    let after = State {
+        regs: Regs { values, written },
+        pc: place_after(a, pc),
+    };
+    Turn {
+        state: after,
+        status: status_of(a),
+    }
 }

@@ -1,0 +1,140 @@
+// Many cases in one run: standard input has one case after the other, each with its tag, all numbers big-endian; each
+// case prints its answer on a line.
+//   M program-length(4) program frame-length(4) frame start(8) budget(4): the machine's stop, R0 and steps.
+// A case that is cut, has another tag or is longer than its buffers ends the run with a line that says which case it is.
+use ebpf::run;
+use libc::STDIN_FILENO;
+use libc::STDOUT_FILENO;
+ghost use Prim.Native.Nat.{_<_, _^_};
+ghost use lib.ListN.{length};
+ghost use Rattle.replay.specs.Part.{Within};
+
+enum Number {
+    Value(u64),
+    Missing,
+}
+
+enum Part {
+    Bytes(usize),
+    Bad,
+}
+
+enum Next {
+    More,
+    End,
+    Broken,
+}
+
+fn be2(a: u8, b: u8) -> u64
+    ensures { λ r. ⌜ r < 2 ^ 16 ⌝ }
+{
+    (a as u64) * 256 + (b as u64)
+}
+
+fn be4(a: u8, b: u8, c: u8, d: u8) -> u64
+    ensures { λ r. ⌜ r < 2 ^ 32 ⌝ }
+{
+    be2(a, b) * 65536 + be2(c, d)
+}
+
+fn be8(b: [u8; 8]) -> u64 {
+    be4(b[0], b[1], b[2], b[3]) * 4294967296 + be4(b[4], b[5], b[6], b[7])
+}
+
+fn read4() -> Number {
+    let mut b = [0u8; 4];
+    if io::read_full(STDIN_FILENO, &mut b) < 4 {
+        return Number::Missing;
+    }
+    Number::Value(be4(b[0], b[1], b[2], b[3]))
+}
+
+fn read8() -> Number {
+    let mut b = [0u8; 8];
+    if io::read_full(STDIN_FILENO, &mut b) < 8 {
+        return Number::Missing;
+    }
+    Number::Value(be8(b))
+}
+
+// A length and as many bytes, into the front of `buf`.
+fn read_part(buf: &mut [u8]) -> Part
+    ensures { λ r. ⌜ Within r (length (now (buf .exit))) ⌝ }
+{
+    let Number::Value(v) = read4() else {
+        return Part::Bad;
+    };
+    let n = v as usize;
+    if buf.len() < n {
+        return Part::Bad;
+    }
+    if io::read_full(STDIN_FILENO, &mut buf[..n]) < n {
+        return Part::Bad;
+    }
+    Part::Bytes(n)
+}
+
+fn print_number(n: u64, after: &[u8]) {
+    io::print_decimal(STDOUT_FILENO, n);
+    io::write_all(STDOUT_FILENO, after);
+}
+
+fn run_machine(program: &[u8], frame: &[u8], start: u64, budget: u64) {
+    let o = run::run(program, frame, start, budget);
+    print_number(o.stop as u64, b" ");
+    print_number(o.r0, b" ");
+    print_number(o.steps, b"\n");
+}
+
+fn machine_case(program: &mut [u8], frame: &mut [u8]) -> Next {
+    let Part::Bytes(p) = read_part(program) else {
+        return Next::Broken;
+    };
+    let Part::Bytes(f) = read_part(frame) else {
+        return Next::Broken;
+    };
+    let Number::Value(start) = read8() else {
+        return Next::Broken;
+    };
+    let Number::Value(budget) = read4() else {
+        return Next::Broken;
+    };
+    run_machine(&program[..p], &frame[..f], start, budget);
+    Next::More
+}
+
+fn next_case(program: &mut [u8], frame: &mut [u8]) -> Next {
+    let mut tag = [0u8; 1];
+    if io::read_full(STDIN_FILENO, &mut tag) < 1 {
+        return Next::End;
+    }
+    if tag[0] == b'M' {
+        return machine_case(program, frame);
+    }
+    Next::Broken
+}
+
+// The cases up to the input's end, numbered from 1.
+fn replay(program: &mut [u8], frame: &mut [u8]) {
+    let mut case: u64 = 1;
+    while case < 0x1_0000_0000 {
+        match next_case(program, frame) {
+            Next::More => {}
+            Next::End => {
+                return;
+            }
+            Next::Broken => {
+                io::write_all(STDOUT_FILENO, b"case ");
+                print_number(case, b" is cut, too long or of no kind\n");
+                return;
+            }
+        }
+        case += 1;
+    }
+}
+
+fn main() {
+    let mut program = [0u8; 524288];
+    let mut frame = [0u8; 65536];
+    replay(&mut program, &mut frame);
+}

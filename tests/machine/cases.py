@@ -1,5 +1,5 @@
 #!/usr/bin/env python3
-"""Cases for the step machine: writes `stdin` and `stdout` beside this file, prints the counts.
+"""Cases for the step machine: writes them as the program replay's `stdin` and `stdout`, prints the counts.
 
 The first half is a model of the machine, written from its rules and from RFC 9669 alone;
 the second half makes the cases and asks the model for each answer.
@@ -586,7 +586,7 @@ def main():
     for part in (opcodes, bad_registers, good_registers, reserved, numbers, arithmetic, comparisons, not_written,
                  starts_and_lengths, loads, jumps, long_programs, budgets, order, random_mixes, listing):
         part()
-    here = os.path.dirname(os.path.abspath(__file__))
+    here = os.path.join(os.path.dirname(os.path.abspath(__file__)), '..', '..', 'crates', 'replay')
     stops, groups = collections.Counter(), collections.Counter()
     table = collections.Counter()     # (opcode, column)
     with open(os.path.join(here, 'stdin'), 'wb') as given, open(os.path.join(here, 'stdout'), 'w') as wanted:

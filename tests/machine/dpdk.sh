@@ -6,4 +6,4 @@ dir=$(dirname "$0")
 out=$(mktemp)
 trap 'rm -f "$out"' EXIT
 cc -O1 -Wall $(pkg-config --cflags libdpdk) -o "$out" "$dir/dpdk.c" $(pkg-config --libs libdpdk)
-"$out" "$dir/stdin" "$dir/stdout"
+"$out" "$dir/../../crates/replay/stdin" "$dir/../../crates/replay/stdout"

@@ -3,3 +3,4 @@ pub mod Coding
 pub mod Numbers
 pub mod Acts
 pub mod Runs
+pub mod Examples

@@ -1,0 +1,4 @@
+pub mod Steps
+pub mod Prefix
+pub mod Counts
+pub mod Exact

@@ -2,3 +2,4 @@ pub mod Steps
 pub mod Prefix
 pub mod Counts
 pub mod Exact
+pub mod Examples

@@ -1,8 +1,8 @@
 -- No tree's tokens begin another tree's: read from the front, a run of tokens gives at most one tree and one rest.
 use Prim.Native.Nat.{ℕ}
 use mathlib.Core.Path.{_≡_, refl, ap}
-use mathlib.Core.List.{List, [], _++_, append-assoc}
-use Rattle.tree.specs.Tree.{Tree, flat}
+use mathlib.Core.List.{List, [], _∷_, _++_, append-assoc, append-nil}
+use Rattle.tree.specs.Tree.{Tree, flat, joined, treesOf, treeOf}
 use Rattle.tree.specs.Tree.Tree.{leaf, and, or, inv}
 
 -- From the front of the tokens, t can be read in one way only.
@@ -41,3 +41,20 @@ flat-front (inv a) (or c d) r s e = (cc, cc)
 -- Tokens have at most one tree.
 pub flat-injective : (t u : Tree) → flat t ≡ flat u → t ≡ u
 flat-injective t u e = flat-front t u [] [] (ap (λ ts. ts ++ []) e) .0
+
+-- A tree's tokens are read back as that tree, and what stands behind them as what it is.
+module _ (a b : Tree) (rest : List ℕ) (first : (r : List ℕ) → treesOf (flat a ++ r) ≡ a ∷ treesOf r) (second : (r : List ℕ) → treesOf (flat b ++ r) ≡ b ∷ treesOf r) where
+  two-read : (make : Tree → Tree → Tree) → joined make (treesOf ((flat a ++ flat b) ++ rest)) ≡ make a b ∷ treesOf rest
+  two-read make = rw (append-assoc (flat a) (flat b) rest, first (flat b ++ rest), second rest)
+
+pub trees-flat : (t : Tree) (rest : List ℕ) → treesOf (flat t ++ rest) ≡ t ∷ treesOf rest
+unfolding treesOf flat
+trees-flat leaf rest = refl
+trees-flat (and a b) rest = two-read a b rest (trees-flat a) (trees-flat b) and
+trees-flat (or a b) rest = two-read a b rest (trees-flat a) (trees-flat b) or
+trees-flat (inv a) rest = rw (trees-flat a rest)
+
+-- THEOREM: the tree of a tree's tokens is that tree.
+pub tree-flat : (t : Tree) → treeOf (flat t) ≡ t
+unfolding treeOf
+tree-flat t = rw (← append-nil (flat t), trees-flat t [])

@@ -1,7 +1,8 @@
 -- Trees as document 01 means them. A tree holds no primitives: they stand beside it in prefix order, and a counter gives each its number.
 use Prim.Native.Nat.{ℕ, suc, _+_, max}
 use mathlib.Core.List.{List, [], _∷_, _++_}
-use mathlib.Core.Bool.{Bool, not, _&&_, _||_}
+use mathlib.Core.Bool.{Bool, cond, not, _&&_, _||_}
+use lib.Dec.{eqb}
 
 -- "0 the next primitive, 1 And, 2 Or, 3 Not": the four forms of a tree.
 pub data Tree : Type 0 where
@@ -43,3 +44,27 @@ holds verdict leaf k = verdict k
 holds verdict (and a b) k = holds verdict a k && holds verdict b (k + leaves a)
 holds verdict (or a b) k = holds verdict a k || holds verdict b (k + leaves a)
 holds verdict (inv a) k = not (holds verdict a k)
+
+-- One tree made of the first two, or of the first; where they are lacking, none is made.
+abbrev pub joined : (Tree → Tree → Tree) → List Tree → List Tree
+joined make [] = []
+joined make (a ∷ []) = a ∷ []
+joined make (a ∷ b ∷ trees) = make a b ∷ trees
+
+abbrev pub turned : List Tree → List Tree
+turned [] = []
+turned (a ∷ trees) = inv a ∷ trees
+
+-- The same sentence read back, from the last token on: the trees that a run of tokens begins with.
+unfoldable pub treesOf : List ℕ → List Tree
+treesOf [] = []
+treesOf (t ∷ ts) =
+    cond (eqb t 0) (leaf ∷ treesOf ts) (cond (eqb t 1) (joined and (treesOf ts)) (cond (eqb t 2) (joined or (treesOf ts)) (turned (treesOf ts))))
+
+abbrev pub front : List Tree → Tree
+front [] = leaf
+front (t ∷ trees) = t
+
+-- The tree of tokens that are one whole tree.
+unfoldable pub treeOf : List ℕ → Tree
+treeOf ts = front (treesOf ts)

@@ -47,10 +47,10 @@ pub record Sized (i : Insn) : Type 0 where
   pub off16 : i .off < 2 ^ 16
   pub imm32 : i .imm < 2 ^ 32
 
-split16 : (x : ℕ) → x < 2 ^ 16 → x % 256 + x / 256 * 256 ≡ x
+pub split16 : (x : ℕ) → x < 2 ^ 16 → x % 256 + x / 256 * 256 ≡ x
 split16 x h = omega arith
 
-split32 : (x : ℕ) → x < 2 ^ 32 → x % 256 + x / 256 % 256 * 256 + x / 65536 % 256 * 65536 + x / 16777216 * 16777216 ≡ x
+pub split32 : (x : ℕ) → x < 2 ^ 32 → x % 256 + x / 256 % 256 * 256 + x / 65536 % 256 * 65536 + x / 16777216 * 16777216 ≡ x
 split32 x h = omega arith
 
 -- THEOREM: any record written and read back is the same record.
@@ -69,16 +69,16 @@ low16 x y h = omega arith
 high16 : (x y : ℕ) → x < 256 → (x + y * 256) / 256 ≡ y
 high16 x y h = omega arith
 
-byte0 : (x y z w : ℕ) → x < 256 → (x + y * 256 + z * 65536 + w * 16777216) % 256 ≡ x
+pub byte0 : (x y z w : ℕ) → x < 256 → (x + y * 256 + z * 65536 + w * 16777216) % 256 ≡ x
 byte0 x y z w h = omega arith
 
-byte1 : (x y z w : ℕ) → x < 256 → y < 256 → (x + y * 256 + z * 65536 + w * 16777216) / 256 % 256 ≡ y
+pub byte1 : (x y z w : ℕ) → x < 256 → y < 256 → (x + y * 256 + z * 65536 + w * 16777216) / 256 % 256 ≡ y
 byte1 x y z w hx hy = omega arith
 
-byte2 : (x y z w : ℕ) → x < 256 → y < 256 → z < 256 → (x + y * 256 + z * 65536 + w * 16777216) / 65536 % 256 ≡ z
+pub byte2 : (x y z w : ℕ) → x < 256 → y < 256 → z < 256 → (x + y * 256 + z * 65536 + w * 16777216) / 65536 % 256 ≡ z
 byte2 x y z w hx hy hz = omega arith
 
-byte3 : (x y z w : ℕ) → x < 256 → y < 256 → z < 256 → (x + y * 256 + z * 65536 + w * 16777216) / 16777216 ≡ w
+pub byte3 : (x y z w : ℕ) → x < 256 → y < 256 → z < 256 → (x + y * 256 + z * 65536 + w * 16777216) / 16777216 ≡ w
 byte3 x y z w hx hy hz = omega arith
 
 -- THEOREM: any eight bytes read and written back are the same eight bytes, and all others stay.

@@ -1,0 +1,9 @@
+pub mod Bytes
+pub mod Jumps
+pub mod Suffix
+pub mod Forms
+pub mod Registers
+pub mod Values
+pub mod Steps
+pub mod Whole
+pub mod K2

@@ -1,0 +1,1 @@
+// Lists of instructions and what running one comes to: definitions and theorems only, in specs/ and proofs/.

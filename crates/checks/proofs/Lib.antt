@@ -1,0 +1,6 @@
+pub mod Bounds
+pub mod Checks
+pub mod Examples
+pub mod Lengths
+pub mod Places
+pub mod Refusals

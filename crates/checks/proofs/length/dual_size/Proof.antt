@@ -1,0 +1,21 @@
+use Rattle.checks.specs.Length.{dualSize}
+use borrow.Author.Needs.{needs}
+use Rattle.checks.proofs.length.dual_size.Statement.{statement}
+use Rattle.checks.proofs.length.dual_size.Tie as tie
+
+enum-told : tie.Need-enum-told
+enum-told c = search needs
+
+enum-told-2 : tie.Need-enum-told-2
+enum-told-2 c = search needs
+
+returns : tie.Need-returns
+unfolding dualSize
+returns c = rw (c .enum-told .given .1)
+
+returns-2 : tie.Need-returns-2
+unfolding dualSize
+returns-2 c = rw (c .enum-told2 .given .1)
+
+pub dual-size-spec : {M : Type 1} → statement M
+dual-size-spec = tie.close (tie.spec enum-told enum-told-2 returns returns-2)

@@ -1,0 +1,4 @@
+pub mod Check
+pub mod Length
+pub mod Refusal
+pub mod Measure

@@ -1,0 +1,23 @@
+use Rattle.filter.specs.Bytes.{be4}
+use borrow.Author.Needs.{needs}
+use Rattle.filter.proofs.bytes.word.Statement.{statement}
+use Rattle.filter.proofs.bytes.word.Tie as tie
+
+half-requires : tie.Need-half-requires
+half-requires c κs = search needs
+
+add-half : tie.Need-add-half
+add-half c = search needs
+
+half-requires-2 : tie.Need-half-requires-2
+half-requires-2 c κs = search needs
+
+join32-requires : tie.Need-join32-requires
+join32-requires c κs = search needs
+
+returns : tie.Need-returns
+unfolding be4
+returns c = cc
+
+pub word-spec : {M : Type 1} → statement M
+word-spec = tie.close (tie.spec half-requires add-half half-requires-2 join32-requires returns)

@@ -1,0 +1,6 @@
+pub mod Ast
+pub mod Bytes
+pub mod First
+pub mod Record
+pub mod Sheet
+pub mod Wrong

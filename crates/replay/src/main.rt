@@ -1,10 +1,18 @@
 // Many cases in one run: standard input has one case after the other, each with its tag, all numbers big-endian; each
 // case prints its answer on a line.
 //   M program-length(4) program frame-length(4) frame start(8) budget(4): the machine's stop, R0 and steps.
+//   S link(1) mode(1) sheet-length(4) sheet: the refusal and its place, or 0, the sheet's three counts and L.
+//   E link(1) sheet-length(4) sheet frame-length(4) frame: the refusal and its place, or 0 and whether the expression holds.
 // A case that is cut, has another tag or is longer than its buffers ends the run with a line that says which case it is.
+use checks::check::check_sheet_mode;
+use checks::check::Checked;
+use checks::measure::measure;
+use checks::measure::Measured;
 use ebpf::run;
 use libc::STDIN_FILENO;
 use libc::STDOUT_FILENO;
+use meaning::evaluate::evaluate;
+use meaning::evaluate::Verdict;
 ghost use Prim.Native.Nat.{_<_, _^_};
 ghost use lib.ListN.{length};
 ghost use Rattle.replay.specs.Part.{Within};
@@ -103,22 +111,90 @@ fn machine_case(program: &mut [u8], frame: &mut [u8]) -> Next {
     Next::More
 }
 
-fn next_case(program: &mut [u8], frame: &mut [u8]) -> Next {
+fn print_refusal(number: u8, place: u32) {
+    print_number(number as u64, b" ");
+    print_number(place as u64, b"\n");
+}
+
+fn run_measure(sheet: &[u8], link: u8) {
+    match measure(sheet, link) {
+        Measured::Refused { number, place } => print_refusal(number, place),
+        Measured::Length { steps, prims, tokens, length } => {
+            io::write_all(STDOUT_FILENO, b"0 ");
+            print_number(steps as u64, b" ");
+            print_number(prims as u64, b" ");
+            print_number(tokens as u64, b" ");
+            print_number(length, b"\n");
+        }
+    }
+}
+
+fn run_check(sheet: &[u8], link: u8, mode: u8) {
+    match check_sheet_mode(sheet, link, mode) {
+        Checked::Refused { number, place } => print_refusal(number, place),
+        Checked::Good { steps: _, prims: _, tokens: _ } => run_measure(sheet, link),
+    }
+}
+
+fn sheet_case(sheet: &mut [u8]) -> Next {
+    let mut head = [0u8; 2];
+    if io::read_full(STDIN_FILENO, &mut head) < 2 {
+        return Next::Broken;
+    }
+    let Part::Bytes(n) = read_part(sheet) else {
+        return Next::Broken;
+    };
+    run_check(&sheet[..n], head[0], head[1]);
+    Next::More
+}
+
+fn run_evaluate(sheet: &[u8], link: u8, frame: &[u8]) {
+    match evaluate(sheet, link, frame) {
+        Verdict::Refused { number, place } => print_refusal(number, place),
+        Verdict::Judged { holds } => {
+            if holds {
+                io::write_all(STDOUT_FILENO, b"0 1\n");
+            } else {
+                io::write_all(STDOUT_FILENO, b"0 0\n");
+            }
+        }
+    }
+}
+
+fn evaluate_case(sheet: &mut [u8], frame: &mut [u8]) -> Next {
+    let mut link = [0u8; 1];
+    if io::read_full(STDIN_FILENO, &mut link) < 1 {
+        return Next::Broken;
+    }
+    let Part::Bytes(n) = read_part(sheet) else {
+        return Next::Broken;
+    };
+    let Part::Bytes(m) = read_part(frame) else {
+        return Next::Broken;
+    };
+    run_evaluate(&sheet[..n], link[0], &frame[..m]);
+    Next::More
+}
+
+fn next_case(bytes: &mut [u8], frame: &mut [u8]) -> Next {
     let mut tag = [0u8; 1];
     if io::read_full(STDIN_FILENO, &mut tag) < 1 {
         return Next::End;
     }
-    if tag[0] == b'M' {
-        return machine_case(program, frame);
+    let t = tag[0];
+    match t {
+        b'M' => machine_case(bytes, frame),
+        b'S' => sheet_case(bytes),
+        b'E' => evaluate_case(bytes, frame),
+        _ => Next::Broken,
     }
-    Next::Broken
 }
 
 // The cases up to the input's end, numbered from 1.
-fn replay(program: &mut [u8], frame: &mut [u8]) {
+fn replay(bytes: &mut [u8], frame: &mut [u8]) {
     let mut case: u64 = 1;
     while case < 0x1_0000_0000 {
-        match next_case(program, frame) {
+        match next_case(bytes, frame) {
             Next::More => {}
             Next::End => {
                 return;
@@ -134,7 +210,7 @@ fn replay(program: &mut [u8], frame: &mut [u8]) {
 }
 
 fn main() {
-    let mut program = [0u8; 524288];
+    let mut bytes = [0u8; 1048576];
     let mut frame = [0u8; 65536];
-    replay(&mut program, &mut frame);
+    replay(&mut bytes, &mut frame);
 }

@@ -1,5 +1,5 @@
 #!/usr/bin/env python3
-"""Cases for the step machine: writes them as the program replay's `stdin` and `stdout`, prints the counts.
+"""Cases for the step machine: `cases.py OUTDIR` writes OUTDIR/stdin and OUTDIR/stdout and prints the counts.
 
 The first half is a model of the machine, written from its rules and from RFC 9669 alone;
 the second half makes the cases and asks the model for each answer.
@@ -8,6 +8,7 @@ import collections
 import os
 import random
 import struct
+import sys
 
 # ---------------------------------------------------------------- the model
 
@@ -586,7 +587,8 @@ def main():
     for part in (opcodes, bad_registers, good_registers, reserved, numbers, arithmetic, comparisons, not_written,
                  starts_and_lengths, loads, jumps, long_programs, budgets, order, random_mixes, listing):
         part()
-    here = os.path.join(os.path.dirname(os.path.abspath(__file__)), '..', '..', 'crates', 'replay')
+    here = sys.argv[1]
+    os.makedirs(here, exist_ok=True)
     stops, groups = collections.Counter(), collections.Counter()
     table = collections.Counter()     # (opcode, column)
     with open(os.path.join(here, 'stdin'), 'wb') as given, open(os.path.join(here, 'stdout'), 'w') as wanted:
@@ -614,4 +616,6 @@ def main():
 
 
 if __name__ == '__main__':
+    if len(sys.argv) != 2:
+        sys.exit('usage: cases.py OUTDIR')
     main()

@@ -65,7 +65,7 @@ def read_cases(path):
 
 
 def main():
-    here = os.path.join(os.path.dirname(os.path.abspath(__file__)), '..', '..', 'crates', 'replay')
+    here = sys.argv[1]
     answers = [tuple(map(int, line.split())) for line in open(os.path.join(here, 'stdout'))]
     count, forms = collections.Counter(), set()
     for n, (program, frame, start, budget) in enumerate(read_cases(os.path.join(here, 'stdin'))):

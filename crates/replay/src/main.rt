@@ -210,7 +210,7 @@ fn replay(bytes: &mut [u8], frame: &mut [u8]) {
 }
 
 fn main() {
-    let mut bytes = [0u8; 1048576];
+    let mut bytes = [0u8; 524288];
     let mut frame = [0u8; 65536];
     replay(&mut bytes, &mut frame);
 }

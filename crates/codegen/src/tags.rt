@@ -1,0 +1,127 @@
+// Multicast, broadcast and the tags behind the ethertype.
+use crate::ether::emit_ethertype;
+use crate::ether::net_plus;
+use crate::load::check;
+use crate::load::emit_load;
+use crate::load::jeq;
+use crate::load::jne;
+use crate::load::jset;
+use ebpf::insn::Insn;
+use ebpf::insn::R4;
+use filter::ast::ether_proto_offset;
+use filter::ast::AccessSize;
+use filter::ast::EtherOffset;
+use filter::ast::LinkType;
+use filter::ast::MaybeId;
+use filter::ast::MaybeLabel;
+use patches::push;
+use patches::push_failure;
+use patches::Patches;
+ghost use mathlib.Core.Path.{_≡_};
+ghost use Rattle.patches.specs.Code.{em, block};
+ghost use Prim.Native.Nat.{_+_};
+ghost use Rattle.filter.specs.Ast.{etherProtoOffset};
+ghost use Rattle.filter.specs.declared.ast.EtherOffset.the-variants.{At};
+ghost use Rattle.codegen.specs.Fragments.{Fits};
+ghost use Rattle.codegen.specs.Primitives.{unwrap-or, emit-ether-multicast, emit-ip-broadcast, emit-ip-multicast, emit-ip6-multicast};
+ghost use Rattle.codegen.specs.Primitives.{vlan-id, emit-vlan, mpls-label, mpls-at, emit-mpls, session-id, emit-pppoe-session};
+
+fn wide(n: u16) -> u32
+    ensures { λ r. ⌜ r ≡ n ⌝ }
+{
+    n as u32
+}
+
+// `ether_proto_offset().unwrap_or(fallback)`, and so many bytes past it.
+fn tag_offset(link: LinkType, fallback: u8, past: u8) -> u32
+    ensures { λ r. ⌜ r ≡ unwrap-or (etherProtoOffset link) fallback + past ⌝ }
+{
+    let n = past as u32;
+    match link {
+        LinkType::Ethernet => 12 + n,
+        LinkType::RawIp => (fallback as u32) + n,
+    }
+}
+
+// `emit_ether_multicast`: bit 0 of byte 0.
+pub(crate) fn emit_ether_multicast(out: &mut [u8], work: &mut [u32], st: Patches, mode: u8, link: LinkType) -> Patches
+    requires { ⌜ Fits (emit-ether-multicast mode link) st ⌝ }
+    ensures { λ r. ⌜ em (now (out .exit)) (now (work .exit)) r ≡ block (emit-ether-multicast mode link) (em (now (out .entry)) (now (work .entry)) st) ⌝ }
+{
+    let a = emit_load(out, work, st, AccessSize::Byte, 0);
+    let b = push(out, work, a, jset(mode, 1, 1));
+    push_failure(out, work, b, Insn::ja(0))
+}
+
+// `emit_ip_broadcast`.
+pub(crate) fn emit_ip_broadcast(out: &mut [u8], work: &mut [u32], st: Patches, mode: u8, link: LinkType) -> Patches
+    requires { ⌜ Fits (emit-ip-broadcast mode link) st ⌝ }
+    ensures { λ r. ⌜ em (now (out .exit)) (now (work .exit)) r ≡ block (emit-ip-broadcast mode link) (em (now (out .entry)) (now (work .entry)) st) ⌝ }
+{
+    let a = emit_ethertype(out, work, st, mode, link, 0x0800);
+    check(out, work, a, mode, AccessSize::Word, net_plus(link, 16), 0xffff_ffff)
+}
+
+// `emit_ip_multicast`.
+pub(crate) fn emit_ip_multicast(out: &mut [u8], work: &mut [u32], st: Patches, mode: u8, link: LinkType) -> Patches
+    requires { ⌜ Fits (emit-ip-multicast mode link) st ⌝ }
+    ensures { λ r. ⌜ em (now (out .exit)) (now (work .exit)) r ≡ block (emit-ip-multicast mode link) (em (now (out .entry)) (now (work .entry)) st) ⌝ }
+{
+    let a = emit_ethertype(out, work, st, mode, link, 0x0800);
+    let b = emit_load(out, work, a, AccessSize::Word, net_plus(link, 16));
+    let c = push(out, work, b, Insn::and32_imm(R4, 0xf000_0000));
+    push_failure(out, work, c, jne(mode, 0xe000_0000, 0))
+}
+
+// `emit_ip6_multicast`.
+pub(crate) fn emit_ip6_multicast(out: &mut [u8], work: &mut [u32], st: Patches, mode: u8, link: LinkType) -> Patches
+    requires { ⌜ Fits (emit-ip6-multicast mode link) st ⌝ }
+    ensures { λ r. ⌜ em (now (out .exit)) (now (work .exit)) r ≡ block (emit-ip6-multicast mode link) (em (now (out .entry)) (now (work .entry)) st) ⌝ }
+{
+    let a = emit_ethertype(out, work, st, mode, link, 0x86dd);
+    check(out, work, a, mode, AccessSize::Byte, net_plus(link, 24), 0xff)
+}
+
+// The number of a VLAN, if one is asked.
+pub(crate) fn emit_vlan_id(out: &mut [u8], work: &mut [u32], st: Patches, mode: u8, link: LinkType, id: MaybeId) -> Patches
+    requires { ⌜ Fits (vlan-id mode link id) st ⌝ }
+    ensures { λ r. ⌜ em (now (out .exit)) (now (work .exit)) r ≡ block (vlan-id mode link id) (em (now (out .entry)) (now (work .entry)) st) ⌝ }
+{
+    match id {
+        MaybeId::NoId => st,
+        MaybeId::SomeId(n) => {
+            let a = emit_load(out, work, st, AccessSize::Half, tag_offset(link, 14, 2));
+            let b = push(out, work, a, Insn::and32_imm(R4, 0x0fff));
+            push_failure(out, work, b, jne(mode, wide(n), 0))
+        }
+    }
+}
+
+// `emit_vlan`.
+pub(crate) fn emit_vlan(out: &mut [u8], work: &mut [u32], st: Patches, mode: u8, link: LinkType, id: MaybeId) -> Patches
+    requires { ⌜ Fits (emit-vlan mode link id) st ⌝ }
+    ensures { λ r. ⌜ em (now (out .exit)) (now (work .exit)) r ≡ block (emit-vlan mode link id) (em (now (out .entry)) (now (work .entry)) st) ⌝ }
+{
+    let a = emit_ethertype(out, work, st, mode, link, 0x8100);
+    emit_vlan_id(out, work, a, mode, link, id)
+}
+
+// The number of a PPPoE session, if one is asked.
+pub(crate) fn emit_session_id(out: &mut [u8], work: &mut [u32], st: Patches, mode: u8, link: LinkType, id: MaybeId) -> Patches
+    requires { ⌜ Fits (session-id mode link id) st ⌝ }
+    ensures { λ r. ⌜ em (now (out .exit)) (now (work .exit)) r ≡ block (session-id mode link id) (em (now (out .entry)) (now (work .entry)) st) ⌝ }
+{
+    match id {
+        MaybeId::NoId => st,
+        MaybeId::SomeId(n) => check(out, work, st, mode, AccessSize::Half, tag_offset(link, 12, 4), wide(n)),
+    }
+}
+
+// `emit_pppoe_session`.
+pub(crate) fn emit_pppoe_session(out: &mut [u8], work: &mut [u32], st: Patches, mode: u8, link: LinkType, id: MaybeId) -> Patches
+    requires { ⌜ Fits (emit-pppoe-session mode link id) st ⌝ }
+    ensures { λ r. ⌜ em (now (out .exit)) (now (work .exit)) r ≡ block (emit-pppoe-session mode link id) (em (now (out .entry)) (now (work .entry)) st) ⌝ }
+{
+    let a = emit_ethertype(out, work, st, mode, link, 0x8864);
+    emit_session_id(out, work, a, mode, link, id)
+}

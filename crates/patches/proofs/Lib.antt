@@ -1,0 +1,17 @@
+pub mod Chains
+pub mod Lists
+pub mod Places
+pub mod Reading
+pub mod Blocks
+pub mod Unchanged
+pub mod Zeros
+pub mod Closes
+pub mod Finishes
+pub mod Tokens
+pub mod Trees
+pub mod Bytes
+pub mod Program
+pub mod Exact
+pub mod WholeTrees
+pub mod ReadBack
+pub mod Examples

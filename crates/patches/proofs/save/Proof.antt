@@ -1,0 +1,54 @@
+-- `save` writes the three numbers of a pending operator.
+use lib.ListN.{length-set}
+use native.Mathlib.Omega.{arith}
+use mathlib.Core.Path.{refl}
+use Rattle.patches.specs.Lists.{saveAt}
+use borrow.Author.Needs.{needs}
+use Rattle.patches.proofs.save.Statement.{statement}
+use Rattle.patches.proofs.save.Tie as tie
+
+mul-work : tie.Need-mul-work
+mul-work c = search needs
+
+slice-write-work : tie.Need-slice-write-work
+slice-write-work c = search needs
+
+add-work : tie.Need-add-work
+add-work c = search needs
+
+mul-work-2 : tie.Need-mul-work-2
+mul-work-2 c = search needs
+
+slice-write-work-2 : tie.Need-slice-write-work-2
+slice-write-work-2 c = simp length-set (omega arith)
+
+add-work-2 : tie.Need-add-work-2
+add-work-2 c = search needs
+
+mul-work-3 : tie.Need-mul-work-3
+mul-work-3 c = search needs
+
+slice-write-work-3 : tie.Need-slice-write-work-3
+slice-write-work-3 c = simp length-set (omega arith)
+
+same-length : tie.Need-same-length
+same-length c = search needs
+
+returns : tie.Need-returns
+unfolding saveAt
+returns c = refl
+
+pub save-spec : {M : Type 1} → statement M
+save-spec =
+    tie.close
+    (tie.spec
+    mul-work
+    slice-write-work
+    add-work
+    mul-work-2
+    slice-write-work-2
+    add-work-2
+    mul-work-3
+    slice-write-work-3
+    same-length
+    returns)

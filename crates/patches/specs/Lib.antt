@@ -1,0 +1,11 @@
+pub mod Chain
+pub mod Lists
+pub mod Code
+pub mod Rel
+pub mod Operators
+pub mod Same
+pub mod Finish
+pub mod Machine
+pub mod Whole
+pub mod Trees
+pub mod Listing

@@ -1,0 +1,44 @@
+-- THEOREM, demand 3, from the sheet's bytes: what the program that `compile` makes does on the machine.
+use Prim.Native.Nat.{ℕ, _<_}
+use mathlib.Core.Path.{_≡_}
+use mathlib.Core.Bool.{Bool, false, cond}
+use mathlib.Core.List.{List}
+use lib.Dec.{ltb}
+use lib.ListN.{length, getD}
+use Rattle.ebpf.specs.Run.{runOf}
+use Rattle.filter.specs.Ast.{linkOf}
+use Rattle.filter.specs.Sheet.{stepsPart, primsPart, tokensPart}
+use Rattle.checks.specs.Check.{checkOf}
+use Rattle.checks.specs.Length.{programLength}
+use Rattle.checks.specs.declared.check.Checked.the-variants.{Good}
+use Rattle.meaning.specs.Evaluate.{expressionHolds, firstRefused}
+use Rattle.program.specs.Program.{codeOf}
+use Rattle.program.specs.Ends.{Exits, Frame}
+use Rattle.sound.specs.Trees.{program}
+use Rattle.sound.specs.Sheets.{sheetCode, Small, Near}
+use Rattle.sound.proofs.Checked.{sheet-allowed, sheet-short, tokens-few}
+use Rattle.sound.proofs.ProgramLength.{sheet-length}
+use Rattle.sound.proofs.Sheets.{sheet-runs, sheet-exits}
+
+-- A sheet s of bytes with a steps, b primitives and c tokens, past refusals 1 to 6; no primitive earns 11 to 19, no jump 10.
+module _ {frame : List ℕ} {start : ℕ} (w : Frame frame start) (mode link : ℕ) (s : List ℕ) (a b c : ℕ) (byte : (p : ℕ) → getD s p 0 < 256)
+    (good : checkOf s link ≡ Good a b c) (allowed : ltb (firstRefused (linkOf link) (stepsPart s a) (primsPart s a b) b) b ≡ false)
+    (near : Near mode (linkOf link) (stepsPart s a) (primsPart s a b) (tokensPart s a b c)) where
+  -- The program has L instructions.
+  pub compiled-length : length (program (sheetCode mode (linkOf link) (stepsPart s a) (primsPart s a b) (tokensPart s a b c)))
+      ≡ programLength (linkOf link) (stepsPart s a) (primsPart s a b) (tokensPart s a b c) b c
+  compiled-length = sheet-length mode c (sheet-allowed s link a b c byte good allowed) (tokens-few s a b c)
+
+  -- "passes the frame exactly when the expression holds": R0 is 2, and else 1, after at most L steps; in plain mode where all constants are below 2^31.
+  pub compiled-runs : Small mode (primsPart s a b) b
+      → Exits (cond (expressionHolds (linkOf link) (stepsPart s a) (primsPart s a b) (tokensPart s a b c) frame) 2 1)
+      (programLength (linkOf link) (stepsPart s a) (primsPart s a b) (tokensPart s a b c) b c)
+      (runOf (codeOf (program (sheetCode mode (linkOf link) (stepsPart s a) (primsPart s a b) (tokensPart s a b c)))) frame start
+      (programLength (linkOf link) (stepsPart s a) (primsPart s a b) (tokensPart s a b c) b c))
+  compiled-runs small = rw (← compiled-length) (sheet-runs w mode (sheet-allowed s link a b c byte good allowed) near (rw compiled-length (sheet-short s link a b c byte good)) small)
+
+  -- In either mode and with any constants it exits with 1 or 2, after at most L steps.
+  pub compiled-exits : (q : Bool) × Exits (cond q 2 1) (programLength (linkOf link) (stepsPart s a) (primsPart s a b) (tokensPart s a b c) b c)
+      (runOf (codeOf (program (sheetCode mode (linkOf link) (stepsPart s a) (primsPart s a b) (tokensPart s a b c)))) frame start
+      (programLength (linkOf link) (stepsPart s a) (primsPart s a b) (tokensPart s a b c) b c))
+  compiled-exits = rw (← compiled-length) (sheet-exits w mode (sheet-allowed s link a b c byte good allowed) near (rw compiled-length (sheet-short s link a b c byte good)))

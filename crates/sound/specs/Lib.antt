@@ -1,0 +1,9 @@
+pub mod Filled
+pub mod Piece
+pub mod Reads
+pub mod Fine
+pub mod Transport
+pub mod Accessed
+pub mod Trees
+pub mod Fitting
+pub mod Sheets

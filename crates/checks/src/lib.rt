@@ -1,5 +1,5 @@
 // Refusals 1 to 6 of a sheet, the refusals 11 to 19 of a primitive, and the program's length.
 pub mod check;
 pub mod length;
-pub mod refusal;
 pub mod measure;
+pub mod refusal;

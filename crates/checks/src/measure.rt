@@ -1,6 +1,6 @@
 // The whole sheet measured: refusals 1 to 6, or its counts and L.
-use crate::check::check_sheet;
 use crate::check::Checked;
+use crate::check::check_sheet;
 use crate::length::program_length;
 use filter::ast::link_of;
 ghost use mathlib.Core.Path.{_≡_};
@@ -8,8 +8,16 @@ ghost use Rattle.checks.specs.Measure.{measureOf};
 
 // A refusal with its place, or what the sheet asks.
 pub enum Measured {
-    Refused { number: u8, place: u32 },
-    Length { steps: u16, prims: u16, tokens: u16, length: u64 },
+    Refused {
+        number: u8,
+        place: u32,
+    },
+    Length {
+        steps: u16,
+        prims: u16,
+        tokens: u16,
+        length: u64,
+    },
 }
 
 // Any sheet, any link; each section is handed on as its own part of the sheet.
@@ -18,7 +26,11 @@ pub fn measure(sheet: &[u8], link: u8) -> Measured
 {
     match check_sheet(sheet, link) {
         Checked::Refused { number, place } => Measured::Refused { number, place },
-        Checked::Good { steps, prims, tokens } => {
+        Checked::Good {
+            steps,
+            prims,
+            tokens,
+        } => {
             let x = 5 * (steps as usize);
             let y = x + 24 * (prims as usize);
             let z = y + (tokens as usize);
@@ -27,8 +39,20 @@ pub fn measure(sheet: &[u8], link: u8) -> Measured
             let b = y + 4;
             let t = y + 6;
             let c = z + 6;
-            let length = program_length(link_of(link), &sheet[2..a], &sheet[p..b], &sheet[t..c], prims, tokens);
-            Measured::Length { steps, prims, tokens, length }
+            let length = program_length(
+                link_of(link),
+                &sheet[2..a],
+                &sheet[p..b],
+                &sheet[t..c],
+                prims,
+                tokens,
+            );
+            Measured::Length {
+                steps,
+                prims,
+                tokens,
+                length,
+            }
         }
     }
 }

@@ -43,7 +43,7 @@ use Rattle.filter.specs.declared.ast.CmpOp.{CmpOp}
 use Rattle.filter.specs.declared.ast.CmpOp.the-variants.{Eq, Ne, Lt, Le, Gt, Ge, BitAnd}
 
 -- Filling jumps changes no length.
-settled-length : (k : ℕ) (xs : List Slot) → length (settled k xs) ≡ length xs
+pub settled-length : (k : ℕ) (xs : List Slot) → length (settled k xs) ≡ length xs
 unfolding settled
 settled-length k [] = refl
 settled-length k (fixed i ∷ xs) = ap suc (settled-length k xs)
@@ -183,7 +183,7 @@ module _ (mode : ℕ) where
 
       sized : (b : Bool) → ltb p 128 ≡ b
           → length (check-net6 mode link (net .addr) p at 8 0)
-            ≡ cond (eqb (cond b p 128 % 16) 0) (6 * ((cond b p 128 + 15) / 16)) (6 * ((cond b p 128 + 15) / 16) + 1)
+          ≡ cond (eqb (cond b p 128 % 16) 0) (6 * ((cond b p 128 + 15) / 16)) (6 * ((cond b p 128 + 15) / 16) + 1)
       sized true e = halves-length link (net .addr) p at p (le-refl p) (omega (arith, ltb-true p 128 e)) (λ k h g. g) 8 0 refl ∙ ap share (sub-zero p) ∙ shares p
       sized false e = halves-length link (net .addr) p at 128 (ltb-false p 128 e) (le-refl 128) (λ k h g. h) 8 0 refl ∙ shares 128
 

@@ -20,9 +20,9 @@ use filter::ast::ArithOp;
 use filter::ast::CmpOp;
 use filter::ast::LinkType;
 use filter::record::step_at;
+use patches::Patches;
 use patches::push;
 use patches::push_failure;
-use patches::Patches;
 ghost use mathlib.Core.Path.{_≡_};
 ghost use Rattle.patches.specs.Code.{em, block};
 ghost use Prim.Native.Nat.{_+_, _*_};
@@ -31,7 +31,14 @@ ghost use Rattle.codegen.specs.Fragments.{Fits, alu32-of, emit-steps, tr
 ghost use Rattle.codegen.specs.Primitives.{emit-len};
 
 // `emit_cmp`: a jump where the comparison fails; BitAnd jumps over one.
-pub(crate) fn emit_cmp(out: &mut [u8], work: &mut [u32], st: Patches, mode: u8, op: CmpOp, value: u32) -> Patches
+pub(crate) fn emit_cmp(
+    out: &mut [u8],
+    work: &mut [u32],
+    st: Patches,
+    mode: u8,
+    op: CmpOp,
+    value: u32,
+) -> Patches
     requires { ⌜ Fits (emit-cmp mode op value) st ⌝ }
     ensures { λ r. ⌜ em (now (out .exit)) (now (work .exit)) r ≡ block (emit-cmp mode op value) (em (now (out .entry)) (now (work .entry)) st) ⌝ }
 {
@@ -81,7 +88,15 @@ pub(crate) fn emit_transport(out: &mut [u8], work: &mut [u32], st: Patches, net:
 }
 
 // `emit_len`: the frame's length is R3 - R2.
-pub(crate) fn emit_len(out: &mut [u8], work: &mut [u32], st: Patches, mode: u8, link: LinkType, op: CmpOp, value: u32) -> Patches
+pub(crate) fn emit_len(
+    out: &mut [u8],
+    work: &mut [u32],
+    st: Patches,
+    mode: u8,
+    link: LinkType,
+    op: CmpOp,
+    value: u32,
+) -> Patches
     requires { ⌜ Fits (emit-len mode link op value) st ⌝ }
     ensures { λ r. ⌜ em (now (out .exit)) (now (work .exit)) r ≡ block (emit-len mode link op value) (em (now (out .entry)) (now (work .entry)) st) ⌝ }
 {

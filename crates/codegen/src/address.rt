@@ -10,10 +10,10 @@ use filter::ast::AccessSize;
 use filter::ast::Dir;
 use filter::ast::IpNet;
 use filter::ast::LinkType;
+use patches::Patches;
 use patches::push;
 use patches::push_failure;
 use patches::push_success;
-use patches::Patches;
 ghost use mathlib.Core.Path.{_≡_};
 ghost use Rattle.patches.specs.Code.{em, block};
 ghost use mathlib.Core.List.{[], _∷_};
@@ -25,7 +25,15 @@ ghost use Rattle.codegen.specs.Fragments.{Fits};
 ghost use Rattle.codegen.specs.Primitives.{check-word-at, check-addr4, emit-host4, emit-net};
 
 // The word at off is k.
-pub(crate) fn check_host_at(out: &mut [u8], work: &mut [u32], st: Patches, mode: u8, link: LinkType, k: u32, off: u32) -> Patches
+pub(crate) fn check_host_at(
+    out: &mut [u8],
+    work: &mut [u32],
+    st: Patches,
+    mode: u8,
+    link: LinkType,
+    k: u32,
+    off: u32,
+) -> Patches
     requires { ⌜ Fits (check-word-at mode link [] k off) st ⌝ }
     ensures { λ r. ⌜ em (now (out .exit)) (now (work .exit)) r ≡ block (check-word-at mode link [] k off) (em (now (out .entry)) (now (work .entry)) st) ⌝ }
 {
@@ -34,7 +42,17 @@ pub(crate) fn check_host_at(out: &mut [u8], work: &mut [u32], st: Patches, mode:
 }
 
 // `check_addr4`.
-pub(crate) fn check_host(out: &mut [u8], work: &mut [u32], st: Patches, mode: u8, link: LinkType, k: u32, src: u32, dst: u32, dir: Dir) -> Patches
+pub(crate) fn check_host(
+    out: &mut [u8],
+    work: &mut [u32],
+    st: Patches,
+    mode: u8,
+    link: LinkType,
+    k: u32,
+    src: u32,
+    dst: u32,
+    dir: Dir,
+) -> Patches
     requires { ⌜ Fits (check-addr4 mode link [] k src dst dir) st ⌝ }
     ensures { λ r. ⌜ em (now (out .exit)) (now (work .exit)) r ≡ block (check-addr4 mode link [] k src dst dir) (em (now (out .entry)) (now (work .entry)) st) ⌝ }
 {
@@ -54,16 +72,43 @@ pub(crate) fn check_host(out: &mut [u8], work: &mut [u32], st: Patches, mode: u8
 }
 
 // `emit_host4`.
-pub(crate) fn emit_host4(out: &mut [u8], work: &mut [u32], st: Patches, mode: u8, link: LinkType, addr: u32, dir: Dir) -> Patches
+pub(crate) fn emit_host4(
+    out: &mut [u8],
+    work: &mut [u32],
+    st: Patches,
+    mode: u8,
+    link: LinkType,
+    addr: u32,
+    dir: Dir,
+) -> Patches
     requires { ⌜ Fits (emit-host4 mode link addr dir) st ⌝ }
     ensures { λ r. ⌜ em (now (out .exit)) (now (work .exit)) r ≡ block (emit-host4 mode link addr dir) (em (now (out .entry)) (now (work .entry)) st) ⌝ }
 {
     let a = emit_ethertype(out, work, st, mode, link, 0x0800);
-    check_host(out, work, a, mode, link, addr, net_plus(link, 12), net_plus(link, 16), dir)
+    check_host(
+        out,
+        work,
+        a,
+        mode,
+        link,
+        addr,
+        net_plus(link, 12),
+        net_plus(link, 16),
+        dir,
+    )
 }
 
 // The word at off is k under the mask.
-pub(crate) fn check_net_at(out: &mut [u8], work: &mut [u32], st: Patches, mode: u8, link: LinkType, mask: u32, k: u32, off: u32) -> Patches
+pub(crate) fn check_net_at(
+    out: &mut [u8],
+    work: &mut [u32],
+    st: Patches,
+    mode: u8,
+    link: LinkType,
+    mask: u32,
+    k: u32,
+    off: u32,
+) -> Patches
     requires { ⌜ Fits (check-word-at mode link (fixed (alu32-imm AND 4 mask) ∷ []) k off) st ⌝ }
     ensures { λ r. ⌜ em (now (out .exit)) (now (work .exit)) r ≡ block (check-word-at mode link (fixed (alu32-imm AND 4 mask) ∷ []) k off) (em (now (out .entry)) (now (work .entry)) st) ⌝ }
 {
@@ -73,7 +118,18 @@ pub(crate) fn check_net_at(out: &mut [u8], work: &mut [u32], st: Patches, mode: 
 }
 
 // The checks of `emit_net`.
-pub(crate) fn check_net(out: &mut [u8], work: &mut [u32], st: Patches, mode: u8, link: LinkType, mask: u32, k: u32, src: u32, dst: u32, dir: Dir) -> Patches
+pub(crate) fn check_net(
+    out: &mut [u8],
+    work: &mut [u32],
+    st: Patches,
+    mode: u8,
+    link: LinkType,
+    mask: u32,
+    k: u32,
+    src: u32,
+    dst: u32,
+    dir: Dir,
+) -> Patches
     requires { ⌜ Fits (check-addr4 mode link (fixed (alu32-imm AND 4 mask) ∷ []) k src dst dir) st ⌝ }
     ensures { λ r. ⌜ em (now (out .exit)) (now (work .exit)) r ≡ block (check-addr4 mode link (fixed (alu32-imm AND 4 mask) ∷ []) k src dst dir) (em (now (out .entry)) (now (work .entry)) st) ⌝ }
 {
@@ -94,12 +150,31 @@ pub(crate) fn check_net(out: &mut [u8], work: &mut [u32], st: Patches, mode: u8,
 }
 
 // `emit_net`.
-pub(crate) fn emit_net(out: &mut [u8], work: &mut [u32], st: Patches, mode: u8, link: LinkType, net: IpNet, dir: Dir) -> Patches
+pub(crate) fn emit_net(
+    out: &mut [u8],
+    work: &mut [u32],
+    st: Patches,
+    mode: u8,
+    link: LinkType,
+    net: IpNet,
+    dir: Dir,
+) -> Patches
     requires { ⌜ Fits (emit-net mode link net dir) st ⌝ }
     ensures { λ r. ⌜ em (now (out .exit)) (now (work .exit)) r ≡ block (emit-net mode link net dir) (em (now (out .entry)) (now (work .entry)) st) ⌝ }
 {
     let mask = net.mask;
     let k = net.addr & mask;
     let a = emit_ethertype(out, work, st, mode, link, 0x0800);
-    check_net(out, work, a, mode, link, mask, k, net_plus(link, 12), net_plus(link, 16), dir)
+    check_net(
+        out,
+        work,
+        a,
+        mode,
+        link,
+        mask,
+        k,
+        net_plus(link, 12),
+        net_plus(link, 16),
+        dir,
+    )
 }

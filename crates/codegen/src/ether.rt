@@ -4,14 +4,14 @@ use crate::load::emit_load;
 use crate::load::jeq;
 use crate::load::jne;
 use ebpf::insn::Insn;
-use filter::ast::ether_proto_offset;
 use filter::ast::AccessSize;
 use filter::ast::EtherOffset;
 use filter::ast::LinkType;
 use filter::ast::Proto;
+use filter::ast::ether_proto_offset;
+use patches::Patches;
 use patches::push;
 use patches::push_failure;
-use patches::Patches;
 ghost use mathlib.Core.Path.{_≡_};
 ghost use Rattle.patches.specs.Code.{em, block};
 ghost use Prim.Native.Nat.{_+_};
@@ -32,7 +32,14 @@ pub(crate) fn net_plus(link: LinkType, k: u8) -> u32
 }
 
 // `emit_ethertype`; on a link without one, IPv4 is implicit and the others are refused before.
-pub(crate) fn emit_ethertype(out: &mut [u8], work: &mut [u32], st: Patches, mode: u8, link: LinkType, et: u32) -> Patches
+pub(crate) fn emit_ethertype(
+    out: &mut [u8],
+    work: &mut [u32],
+    st: Patches,
+    mode: u8,
+    link: LinkType,
+    et: u32,
+) -> Patches
     requires { ⌜ Fits (emit-ethertype mode link et) st ⌝ }
     ensures { λ r. ⌜ em (now (out .exit)) (now (work .exit)) r ≡ block (emit-ethertype mode link et) (em (now (out .entry)) (now (work .entry)) st) ⌝ }
 {
@@ -43,38 +50,99 @@ pub(crate) fn emit_ethertype(out: &mut [u8], work: &mut [u32], st: Patches, mode
 }
 
 // `emit_ip4_l4`.
-pub(crate) fn emit_ip4_l4(out: &mut [u8], work: &mut [u32], st: Patches, mode: u8, link: LinkType, proto: u32) -> Patches
+pub(crate) fn emit_ip4_l4(
+    out: &mut [u8],
+    work: &mut [u32],
+    st: Patches,
+    mode: u8,
+    link: LinkType,
+    proto: u32,
+) -> Patches
     requires { ⌜ Fits (emit-ip4-l4 mode link proto) st ⌝ }
     ensures { λ r. ⌜ em (now (out .exit)) (now (work .exit)) r ≡ block (emit-ip4-l4 mode link proto) (em (now (out .entry)) (now (work .entry)) st) ⌝ }
 {
     let a = emit_ethertype(out, work, st, mode, link, 0x0800);
-    check(out, work, a, mode, AccessSize::Byte, net_plus(link, 9), proto)
+    check(
+        out,
+        work,
+        a,
+        mode,
+        AccessSize::Byte,
+        net_plus(link, 9),
+        proto,
+    )
 }
 
 // `emit_ip6_l4`.
-pub(crate) fn emit_ip6_l4(out: &mut [u8], work: &mut [u32], st: Patches, mode: u8, link: LinkType, next: u32) -> Patches
+pub(crate) fn emit_ip6_l4(
+    out: &mut [u8],
+    work: &mut [u32],
+    st: Patches,
+    mode: u8,
+    link: LinkType,
+    next: u32,
+) -> Patches
     requires { ⌜ Fits (emit-ip6-l4 mode link next) st ⌝ }
     ensures { λ r. ⌜ em (now (out .exit)) (now (work .exit)) r ≡ block (emit-ip6-l4 mode link next) (em (now (out .entry)) (now (work .entry)) st) ⌝ }
 {
     let a = emit_ethertype(out, work, st, mode, link, 0x86dd);
-    check(out, work, a, mode, AccessSize::Byte, net_plus(link, 6), next)
+    check(
+        out,
+        work,
+        a,
+        mode,
+        AccessSize::Byte,
+        net_plus(link, 6),
+        next,
+    )
 }
 
 // IPv6's block and IPv4's, of which the ethertype picks one.
-pub(crate) fn emit_dual_at(out: &mut [u8], work: &mut [u32], st: Patches, mode: u8, link: LinkType, off: u32, proto: u32) -> Patches
+pub(crate) fn emit_dual_at(
+    out: &mut [u8],
+    work: &mut [u32],
+    st: Patches,
+    mode: u8,
+    link: LinkType,
+    off: u32,
+    proto: u32,
+) -> Patches
     requires { ⌜ Fits (dual-at mode (At off) link proto) st ⌝ }
     ensures { λ r. ⌜ em (now (out .exit)) (now (work .exit)) r ≡ block (dual-at mode (At off) link proto) (em (now (out .entry)) (now (work .entry)) st) ⌝ }
 {
     let a = emit_load(out, work, st, AccessSize::Half, off);
     let b = push(out, work, a, jeq(mode, 0x0800, 7));
     let c = push_failure(out, work, b, jne(mode, 0x86dd, 0));
-    let d = check(out, work, c, mode, AccessSize::Byte, net_plus(link, 6), proto);
+    let d = check(
+        out,
+        work,
+        c,
+        mode,
+        AccessSize::Byte,
+        net_plus(link, 6),
+        proto,
+    );
     let e = push(out, work, d, Insn::ja(5));
-    check(out, work, e, mode, AccessSize::Byte, net_plus(link, 9), proto)
+    check(
+        out,
+        work,
+        e,
+        mode,
+        AccessSize::Byte,
+        net_plus(link, 9),
+        proto,
+    )
 }
 
 // `emit_dual_l4`.
-pub(crate) fn emit_dual_l4(out: &mut [u8], work: &mut [u32], st: Patches, mode: u8, link: LinkType, proto: u32) -> Patches
+pub(crate) fn emit_dual_l4(
+    out: &mut [u8],
+    work: &mut [u32],
+    st: Patches,
+    mode: u8,
+    link: LinkType,
+    proto: u32,
+) -> Patches
     requires { ⌜ Fits (emit-dual-l4 mode link proto) st ⌝ }
     ensures { λ r. ⌜ em (now (out .exit)) (now (work .exit)) r ≡ block (emit-dual-l4 mode link proto) (em (now (out .entry)) (now (work .entry)) st) ⌝ }
 {
@@ -91,7 +159,14 @@ fn wide(n: u8) -> u32
 }
 
 // `emit_proto`.
-pub(crate) fn emit_proto(out: &mut [u8], work: &mut [u32], st: Patches, mode: u8, link: LinkType, proto: Proto) -> Patches
+pub(crate) fn emit_proto(
+    out: &mut [u8],
+    work: &mut [u32],
+    st: Patches,
+    mode: u8,
+    link: LinkType,
+    proto: Proto,
+) -> Patches
     requires { ⌜ Fits (emit-proto mode link proto) st ⌝ }
     ensures { λ r. ⌜ em (now (out .exit)) (now (work .exit)) r ≡ block (emit-proto mode link proto) (em (now (out .entry)) (now (work .entry)) st) ⌝ }
 {

@@ -5,9 +5,9 @@ use ebpf::insn::R3;
 use ebpf::insn::R4;
 use ebpf::insn::R5;
 use filter::ast::AccessSize;
+use patches::Patches;
 use patches::push;
 use patches::push_failure;
-use patches::Patches;
 ghost use mathlib.Core.Path.{_≡_};
 ghost use Rattle.patches.specs.Code.{em, block};
 ghost use Prim.Native.Nat.{_%_, _^_};
@@ -41,7 +41,13 @@ pub(crate) fn end_of(size: AccessSize, offset: u32) -> u32
 }
 
 // R5 = base + end, which must not lie past R3.
-pub(crate) fn push_guard(out: &mut [u8], work: &mut [u32], st: Patches, base: u8, end: u32) -> Patches
+pub(crate) fn push_guard(
+    out: &mut [u8],
+    work: &mut [u32],
+    st: Patches,
+    base: u8,
+    end: u32,
+) -> Patches
     requires { ⌜ Fits (guard base end) st ⌝ }
     ensures { λ r. ⌜ em (now (out .exit)) (now (work .exit)) r ≡ block (guard base end) (em (now (out .entry)) (now (work .entry)) st) ⌝ }
 {
@@ -74,7 +80,14 @@ fn push_ldx_w_be(out: &mut [u8], work: &mut [u32], st: Patches, base: u8, off: u
 }
 
 // R4 = the number at base + off, in the host's order.
-pub(crate) fn push_load(out: &mut [u8], work: &mut [u32], st: Patches, size: AccessSize, base: u8, off: u32) -> Patches
+pub(crate) fn push_load(
+    out: &mut [u8],
+    work: &mut [u32],
+    st: Patches,
+    size: AccessSize,
+    base: u8,
+    off: u32,
+) -> Patches
     requires { ⌜ Fits (load size base off) st ⌝ }
     ensures { λ r. ⌜ em (now (out .exit)) (now (work .exit)) r ≡ block (load size base off) (em (now (out .entry)) (now (work .entry)) st) ⌝ }
 {
@@ -86,7 +99,13 @@ pub(crate) fn push_load(out: &mut [u8], work: &mut [u32], st: Patches, size: Acc
 }
 
 // `emit_load_byte`, `emit_load_half`, `emit_load_word`.
-pub(crate) fn emit_load(out: &mut [u8], work: &mut [u32], st: Patches, size: AccessSize, offset: u32) -> Patches
+pub(crate) fn emit_load(
+    out: &mut [u8],
+    work: &mut [u32],
+    st: Patches,
+    size: AccessSize,
+    offset: u32,
+) -> Patches
     requires { ⌜ Fits (emit-load size offset) st ⌝ }
     ensures { λ r. ⌜ em (now (out .exit)) (now (work .exit)) r ≡ block (emit-load size offset) (em (now (out .entry)) (now (work .entry)) st) ⌝ }
 {
@@ -98,47 +117,83 @@ pub(crate) fn emit_load(out: &mut [u8], work: &mut [u32], st: Patches, size: Acc
 pub(crate) fn jeq(mode: u8, k: u32, off: u16) -> Insn
     ensures { λ r. ⌜ r ≡ jump-imm (class-of mode) JEQ 4 k off ⌝ }
 {
-    if mode == 0 { Insn::jeq_imm(R4, k, off) } else { Insn::jeq32_imm(R4, k, off) }
+    if mode == 0 {
+        Insn::jeq_imm(R4, k, off)
+    } else {
+        Insn::jeq32_imm(R4, k, off)
+    }
 }
 
 pub(crate) fn jne(mode: u8, k: u32, off: u16) -> Insn
     ensures { λ r. ⌜ r ≡ jump-imm (class-of mode) JNE 4 k off ⌝ }
 {
-    if mode == 0 { Insn::jne_imm(R4, k, off) } else { Insn::jne32_imm(R4, k, off) }
+    if mode == 0 {
+        Insn::jne_imm(R4, k, off)
+    } else {
+        Insn::jne32_imm(R4, k, off)
+    }
 }
 
 pub(crate) fn jgt(mode: u8, k: u32, off: u16) -> Insn
     ensures { λ r. ⌜ r ≡ jump-imm (class-of mode) JGT 4 k off ⌝ }
 {
-    if mode == 0 { Insn::jgt_imm(R4, k, off) } else { Insn::jgt32_imm(R4, k, off) }
+    if mode == 0 {
+        Insn::jgt_imm(R4, k, off)
+    } else {
+        Insn::jgt32_imm(R4, k, off)
+    }
 }
 
 pub(crate) fn jge(mode: u8, k: u32, off: u16) -> Insn
     ensures { λ r. ⌜ r ≡ jump-imm (class-of mode) JGE 4 k off ⌝ }
 {
-    if mode == 0 { Insn::jge_imm(R4, k, off) } else { Insn::jge32_imm(R4, k, off) }
+    if mode == 0 {
+        Insn::jge_imm(R4, k, off)
+    } else {
+        Insn::jge32_imm(R4, k, off)
+    }
 }
 
 pub(crate) fn jlt(mode: u8, k: u32, off: u16) -> Insn
     ensures { λ r. ⌜ r ≡ jump-imm (class-of mode) JLT 4 k off ⌝ }
 {
-    if mode == 0 { Insn::jlt_imm(R4, k, off) } else { Insn::jlt32_imm(R4, k, off) }
+    if mode == 0 {
+        Insn::jlt_imm(R4, k, off)
+    } else {
+        Insn::jlt32_imm(R4, k, off)
+    }
 }
 
 pub(crate) fn jle(mode: u8, k: u32, off: u16) -> Insn
     ensures { λ r. ⌜ r ≡ jump-imm (class-of mode) JLE 4 k off ⌝ }
 {
-    if mode == 0 { Insn::jle_imm(R4, k, off) } else { Insn::jle32_imm(R4, k, off) }
+    if mode == 0 {
+        Insn::jle_imm(R4, k, off)
+    } else {
+        Insn::jle32_imm(R4, k, off)
+    }
 }
 
 pub(crate) fn jset(mode: u8, k: u32, off: u16) -> Insn
     ensures { λ r. ⌜ r ≡ jump-imm (class-of mode) JSET 4 k off ⌝ }
 {
-    if mode == 0 { Insn::jset_imm(R4, k, off) } else { Insn::jset32_imm(R4, k, off) }
+    if mode == 0 {
+        Insn::jset_imm(R4, k, off)
+    } else {
+        Insn::jset32_imm(R4, k, off)
+    }
 }
 
 // `check_byte`, `check_half`, `check_word`.
-pub(crate) fn check(out: &mut [u8], work: &mut [u32], st: Patches, mode: u8, size: AccessSize, offset: u32, expected: u32) -> Patches
+pub(crate) fn check(
+    out: &mut [u8],
+    work: &mut [u32],
+    st: Patches,
+    mode: u8,
+    size: AccessSize,
+    offset: u32,
+    expected: u32,
+) -> Patches
     requires { ⌜ Fits (check mode size offset expected) st ⌝ }
     ensures { λ r. ⌜ em (now (out .exit)) (now (work .exit)) r ≡ block (check mode size offset expected) (em (now (out .entry)) (now (work .entry)) st) ⌝ }
 {

@@ -8,15 +8,15 @@ use crate::load::jne;
 use crate::load::jset;
 use ebpf::insn::Insn;
 use ebpf::insn::R4;
-use filter::ast::ether_proto_offset;
 use filter::ast::AccessSize;
 use filter::ast::EtherOffset;
 use filter::ast::LinkType;
 use filter::ast::MaybeId;
 use filter::ast::MaybeLabel;
+use filter::ast::ether_proto_offset;
+use patches::Patches;
 use patches::push;
 use patches::push_failure;
-use patches::Patches;
 ghost use mathlib.Core.Path.{_≡_};
 ghost use Rattle.patches.specs.Code.{em, block};
 ghost use Prim.Native.Nat.{_+_};
@@ -44,7 +44,13 @@ fn tag_offset(link: LinkType, fallback: u8, past: u8) -> u32
 }
 
 // `emit_ether_multicast`: bit 0 of byte 0.
-pub(crate) fn emit_ether_multicast(out: &mut [u8], work: &mut [u32], st: Patches, mode: u8, link: LinkType) -> Patches
+pub(crate) fn emit_ether_multicast(
+    out: &mut [u8],
+    work: &mut [u32],
+    st: Patches,
+    mode: u8,
+    link: LinkType,
+) -> Patches
     requires { ⌜ Fits (emit-ether-multicast mode link) st ⌝ }
     ensures { λ r. ⌜ em (now (out .exit)) (now (work .exit)) r ≡ block (emit-ether-multicast mode link) (em (now (out .entry)) (now (work .entry)) st) ⌝ }
 {
@@ -54,16 +60,36 @@ pub(crate) fn emit_ether_multicast(out: &mut [u8], work: &mut [u32], st: Patches
 }
 
 // `emit_ip_broadcast`.
-pub(crate) fn emit_ip_broadcast(out: &mut [u8], work: &mut [u32], st: Patches, mode: u8, link: LinkType) -> Patches
+pub(crate) fn emit_ip_broadcast(
+    out: &mut [u8],
+    work: &mut [u32],
+    st: Patches,
+    mode: u8,
+    link: LinkType,
+) -> Patches
     requires { ⌜ Fits (emit-ip-broadcast mode link) st ⌝ }
     ensures { λ r. ⌜ em (now (out .exit)) (now (work .exit)) r ≡ block (emit-ip-broadcast mode link) (em (now (out .entry)) (now (work .entry)) st) ⌝ }
 {
     let a = emit_ethertype(out, work, st, mode, link, 0x0800);
-    check(out, work, a, mode, AccessSize::Word, net_plus(link, 16), 0xffff_ffff)
+    check(
+        out,
+        work,
+        a,
+        mode,
+        AccessSize::Word,
+        net_plus(link, 16),
+        0xffff_ffff,
+    )
 }
 
 // `emit_ip_multicast`.
-pub(crate) fn emit_ip_multicast(out: &mut [u8], work: &mut [u32], st: Patches, mode: u8, link: LinkType) -> Patches
+pub(crate) fn emit_ip_multicast(
+    out: &mut [u8],
+    work: &mut [u32],
+    st: Patches,
+    mode: u8,
+    link: LinkType,
+) -> Patches
     requires { ⌜ Fits (emit-ip-multicast mode link) st ⌝ }
     ensures { λ r. ⌜ em (now (out .exit)) (now (work .exit)) r ≡ block (emit-ip-multicast mode link) (em (now (out .entry)) (now (work .entry)) st) ⌝ }
 {
@@ -74,16 +100,37 @@ pub(crate) fn emit_ip_multicast(out: &mut [u8], work: &mut [u32], st: Patches, m
 }
 
 // `emit_ip6_multicast`.
-pub(crate) fn emit_ip6_multicast(out: &mut [u8], work: &mut [u32], st: Patches, mode: u8, link: LinkType) -> Patches
+pub(crate) fn emit_ip6_multicast(
+    out: &mut [u8],
+    work: &mut [u32],
+    st: Patches,
+    mode: u8,
+    link: LinkType,
+) -> Patches
     requires { ⌜ Fits (emit-ip6-multicast mode link) st ⌝ }
     ensures { λ r. ⌜ em (now (out .exit)) (now (work .exit)) r ≡ block (emit-ip6-multicast mode link) (em (now (out .entry)) (now (work .entry)) st) ⌝ }
 {
     let a = emit_ethertype(out, work, st, mode, link, 0x86dd);
-    check(out, work, a, mode, AccessSize::Byte, net_plus(link, 24), 0xff)
+    check(
+        out,
+        work,
+        a,
+        mode,
+        AccessSize::Byte,
+        net_plus(link, 24),
+        0xff,
+    )
 }
 
 // The number of a VLAN, if one is asked.
-pub(crate) fn emit_vlan_id(out: &mut [u8], work: &mut [u32], st: Patches, mode: u8, link: LinkType, id: MaybeId) -> Patches
+pub(crate) fn emit_vlan_id(
+    out: &mut [u8],
+    work: &mut [u32],
+    st: Patches,
+    mode: u8,
+    link: LinkType,
+    id: MaybeId,
+) -> Patches
     requires { ⌜ Fits (vlan-id mode link id) st ⌝ }
     ensures { λ r. ⌜ em (now (out .exit)) (now (work .exit)) r ≡ block (vlan-id mode link id) (em (now (out .entry)) (now (work .entry)) st) ⌝ }
 {
@@ -98,7 +145,14 @@ pub(crate) fn emit_vlan_id(out: &mut [u8], work: &mut [u32], st: Patches, mode: 
 }
 
 // `emit_vlan`.
-pub(crate) fn emit_vlan(out: &mut [u8], work: &mut [u32], st: Patches, mode: u8, link: LinkType, id: MaybeId) -> Patches
+pub(crate) fn emit_vlan(
+    out: &mut [u8],
+    work: &mut [u32],
+    st: Patches,
+    mode: u8,
+    link: LinkType,
+    id: MaybeId,
+) -> Patches
     requires { ⌜ Fits (emit-vlan mode link id) st ⌝ }
     ensures { λ r. ⌜ em (now (out .exit)) (now (work .exit)) r ≡ block (emit-vlan mode link id) (em (now (out .entry)) (now (work .entry)) st) ⌝ }
 {
@@ -107,18 +161,40 @@ pub(crate) fn emit_vlan(out: &mut [u8], work: &mut [u32], st: Patches, mode: u8,
 }
 
 // The number of a PPPoE session, if one is asked.
-pub(crate) fn emit_session_id(out: &mut [u8], work: &mut [u32], st: Patches, mode: u8, link: LinkType, id: MaybeId) -> Patches
+pub(crate) fn emit_session_id(
+    out: &mut [u8],
+    work: &mut [u32],
+    st: Patches,
+    mode: u8,
+    link: LinkType,
+    id: MaybeId,
+) -> Patches
     requires { ⌜ Fits (session-id mode link id) st ⌝ }
     ensures { λ r. ⌜ em (now (out .exit)) (now (work .exit)) r ≡ block (session-id mode link id) (em (now (out .entry)) (now (work .entry)) st) ⌝ }
 {
     match id {
         MaybeId::NoId => st,
-        MaybeId::SomeId(n) => check(out, work, st, mode, AccessSize::Half, tag_offset(link, 12, 4), wide(n)),
+        MaybeId::SomeId(n) => check(
+            out,
+            work,
+            st,
+            mode,
+            AccessSize::Half,
+            tag_offset(link, 12, 4),
+            wide(n),
+        ),
     }
 }
 
 // `emit_pppoe_session`.
-pub(crate) fn emit_pppoe_session(out: &mut [u8], work: &mut [u32], st: Patches, mode: u8, link: LinkType, id: MaybeId) -> Patches
+pub(crate) fn emit_pppoe_session(
+    out: &mut [u8],
+    work: &mut [u32],
+    st: Patches,
+    mode: u8,
+    link: LinkType,
+    id: MaybeId,
+) -> Patches
     requires { ⌜ Fits (emit-pppoe-session mode link id) st ⌝ }
     ensures { λ r. ⌜ em (now (out .exit)) (now (work .exit)) r ≡ block (emit-pppoe-session mode link id) (em (now (out .entry)) (now (work .entry)) st) ⌝ }
 {

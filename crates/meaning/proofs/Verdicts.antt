@@ -22,9 +22,10 @@ use Rattle.checks.specs.Check.{stepsBefore}
 use Rattle.checks.specs.Refusal.{refusal}
 use Rattle.meaning.specs.declared.evaluate.Verdict.{Verdict}
 use Rattle.meaning.specs.declared.evaluate.Verdict.the-variants.{Refused, Judged}
+use Rattle.meaning.specs.declared.walk.Spot.{Spot}
 use Rattle.meaning.specs.declared.walk.Eval.{Eval}
 use Rattle.meaning.specs.declared.walk.Eval.the-variants.{Done, TooDeep, Broken}
-use Rattle.meaning.specs.Evaluate.{primitiveHolds, expressionHolds, refusalAt, firstRefused, judge}
+use Rattle.meaning.specs.Evaluate.{primitiveHolds, expressionHolds, refusalAt, firstRefused, judge, evaluateOf}
 use Rattle.meaning.specs.Walk.{evalAt, refusedOr}
 use Rattle.meaning.proofs.Walks.{at-most-or-above, Found, walk-tree, walk-too-deep}
 
@@ -78,7 +79,7 @@ module _ (link : LinkType) (steps prims ts : List ℕ) (b : ℕ) (f : List ℕ) 
     sinking : 256 < depth t → walked ≡ TooDeep
     sinking g = walk-too-deep (primitiveHolds link steps prims f) (stepsBefore prims) b ts t 256 0 0 [] whole-run (omega arith) g
 
-    done-tree : {h : Bool} {n p s : ℕ} → walked ≡ Done h n p s → refusedOr link steps prims b h ≡ judge link steps prims ts b f
+    done-tree : {h : Bool} {next : Spot} → walked ≡ Done h next → refusedOr link steps prims b h ≡ judge link steps prims ts b f
     unfolding judge refusedOr expressionHolds
     done-tree {h} e =
         ⊎-elim
@@ -104,7 +105,7 @@ module _ (link : LinkType) (steps prims ts : List ℕ) (b : ℕ) (f : List ℕ) 
         (λ (g : 256 < depth t). let sunk = sinking g in let clash : _≡_ {A = ℕ} 0 1 = cc in omega arith)
         (at-most-or-above (depth t) 256)
 
-  pub judge-done : shapeOf ts ≡ Whole b → {h : Bool} {n p s : ℕ} → walked ≡ Done h n p s → refusedOr link steps prims b h ≡ judge link steps prims ts b f
+  pub judge-done : shapeOf ts ≡ Whole b → {h : Bool} {next : Spot} → walked ≡ Done h next → refusedOr link steps prims b h ≡ judge link steps prims ts b f
   judge-done one e = let t = flat-whole ts b one in done-tree (t .0) (t .1) (t .2) e
 
   pub judge-deep : shapeOf ts ≡ Whole b → walked ≡ TooDeep → Refused 9 0 ≡ judge link steps prims ts b f
@@ -112,3 +113,7 @@ module _ (link : LinkType) (steps prims ts : List ℕ) (b : ℕ) (f : List ℕ) 
 
   pub judge-never : shapeOf ts ≡ Whole b → walked ≡ Broken → {v : Verdict} → v ≡ judge link steps prims ts b f
   judge-never one e = let t = flat-whole ts b one in absurd (never-broken (t .0) (t .1) (t .2) e)
+
+-- "Prove that any two results allowed are equal": those of `evaluate`.
+pub one-answer : (s : List ℕ) (link : ℕ) (f : List ℕ) (r v : Verdict) → r ≡ evaluateOf s link f → v ≡ evaluateOf s link f → r ≡ v
+one-answer s link f r v p q = p ∙ sym q

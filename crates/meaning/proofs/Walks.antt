@@ -1,6 +1,6 @@
 -- The walk over the tokens of a tree: what it gives at one token, and that it gives what the tree holds, or finds it too deep.
 use Prim.Native.Nat.{ℕ, zero, suc, _+_, _-_, _<_, _≤_, max}
-use mathlib.Core.Path.{_≡_, refl, sym, ap, _∙_}
+use mathlib.Core.Path.{_≡_, refl, sym, ap, _∙_, subst}
 use mathlib.Core.Logic.{_⊎_, ⊎-elim, inl, inr}
 use mathlib.Core.List.{List, _∷_, _++_, append-assoc}
 use mathlib.Core.Bool.{Bool, true, false, cond, not}
@@ -13,6 +13,7 @@ use lib.ListN.{length, getD, drop, length-append, length-drop}
 use lib.Seq.{drop-cons, drop-append-seam, drop-drop}
 use Rattle.tree.specs.Tree.{Tree, flat, leaves, depth, holds}
 use Rattle.tree.specs.Tree.Tree.{leaf, and, or, inv}
+use Rattle.meaning.specs.declared.walk.Spot.{Spot}
 use Rattle.meaning.specs.declared.walk.Eval.{Eval}
 use Rattle.meaning.specs.declared.walk.Eval.the-variants.{Done, TooDeep, Broken}
 use Rattle.meaning.specs.Walk.{joinBool, joinOf, andThen, leafOf, evalAt}
@@ -29,7 +30,7 @@ pred-of d n = omega (arith, n)
 
 -- An answer whose next step is the first step of its next primitive.
 data Told (before : ℕ → ℕ) : Eval → Type 0 where
-  done : {h : Bool} {n p s : ℕ} → s ≡ before p → Told before (Done h n p s)
+  done : {h : Bool} {next : Spot} → next .step ≡ before (next .prim) → Told before (Done h next)
   deep : Told before TooDeep
   broken : Told before Broken
 
@@ -42,17 +43,16 @@ told-join t a (done e) = done e
 told-join t a deep = deep
 told-join t a broken = broken
 
-told-then : {before : ℕ → ℕ} {x : Eval} (more : Bool → ℕ → ℕ → ℕ → Eval) → Told before x
-    → ((h : Bool) (n p s : ℕ) → s ≡ before p → Told before (more h n p s)) → Told before (andThen x more)
-told-then more (done e) rest = rest _ _ _ _ e
+told-then : {before : ℕ → ℕ} {x : Eval} (more : Bool → Spot → Eval) → Told before x
+    → ((h : Bool) (next : Spot) → next .step ≡ before (next .prim) → Told before (more h next)) → Told before (andThen x more)
+told-then more (done e) rest = rest _ _ e
 told-then more deep rest = deep
 told-then more broken rest = broken
 
-told-step : {before : ℕ → ℕ} {x : Eval} {h : Bool} {n p s : ℕ} → Told before x → x ≡ Done h n p s → s ≡ before p
-told-step {before} {p = p} {s = s} (done {p = q} {s = r} e) same =
-    let u : q ≡ p = cc in
-    let v : r ≡ s = cc in
-    sym v ∙ e ∙ ap before u
+told-step : {before : ℕ → ℕ} {x : Eval} {h : Bool} {next : Spot} → Told before x → x ≡ Done h next → next .step ≡ before (next .prim)
+told-step {before} {next = next} (done {next = found} e) same =
+    let u : found ≡ next = cc in
+    subst (λ (s : Spot). s .step ≡ before (s .prim)) u e
 told-step deep same = let clash : _≡_ {A = ℕ} 0 1 = cc in absurd (omega arith)
 told-step broken same = let clash : _≡_ {A = ℕ} 0 1 = cc in absurd (omega arith)
 
@@ -76,18 +76,18 @@ module _ (verdict : ℕ → Bool) (before : ℕ → ℕ) (count : ℕ) (ts : Lis
   -- A token that is an operator, with what its operands give.
   module _ (d at k : ℕ) (n : d ≡ 0 → ⊥) (h : at < length ts) (e : getD ts at 0 ≡ 0 → ⊥) where
     walk-node : eval d at k
-        ≡ andThen (eval (d - 1) (at + 1) k) (λ a next prim step.
-        cond (eqb (getD ts at 0) 3) (Done (not a) next prim step) (joinOf (getD ts at 0) a (eval (d - 1) next prim)))
+        ≡ andThen (eval (d - 1) (at + 1) k) (λ a next.
+        cond (eqb (getD ts at 0) 3) (Done (not a) next) (joinOf (getD ts at 0) a (eval (d - 1) (next .token) (next .prim))))
     unfolding evalAt
     walk-node =
         let z : suc (d - 1) - 1 ≡ d - 1 = omega arith in
         rw (pred-of d n) (simp (lt-leb _ _ h, ne-eqb _ _ e, z))
 
-    pub walk-not : {a : Bool} {next prim step : ℕ} → eval (d - 1) (at + 1) k ≡ Done a next prim step → getD ts at 0 ≡ 3 → eval d at k ≡ Done (not a) next prim step
+    pub walk-not : {a : Bool} {next : Spot} → eval (d - 1) (at + 1) k ≡ Done a next → getD ts at 0 ≡ 3 → eval d at k ≡ Done (not a) next
     walk-not first t = rw (walk-node, first, t)
 
-    pub walk-both : {a : Bool} {next prim step : ℕ} {r : Eval} → eval (d - 1) (at + 1) k ≡ Done a next prim step → (getD ts at 0 ≡ 3 → ⊥)
-        → r ≡ eval (d - 1) next prim → eval d at k ≡ joinOf (getD ts at 0) a r
+    pub walk-both : {a : Bool} {next : Spot} {r : Eval} → eval (d - 1) (at + 1) k ≡ Done a next → (getD ts at 0 ≡ 3 → ⊥)
+        → r ≡ eval (d - 1) (next .token) (next .prim) → eval d at k ≡ joinOf (getD ts at 0) a r
     walk-both first t second = rw (walk-node, first, ne-eqb _ 3 t, ← second)
 
     pub walk-sinks : eval (d - 1) (at + 1) k ≡ TooDeep → eval d at k ≡ TooDeep
@@ -106,11 +106,11 @@ module _ (verdict : ℕ → Bool) (before : ℕ → ℕ) (count : ℕ) (ts : Lis
   told-at (suc d) at k =
       told-pick (leb (length ts) at) broken
       (told-pick (eqb (getD ts at 0) 0) (told-leaf (at + 1) k)
-      (told-then _ (told-at d (at + 1) k) (λ h n p s e.
-      told-pick (eqb (getD ts at 0) 3) (done e) (told-join (getD ts at 0) h (told-at d n p)))))
+      (told-then _ (told-at d (at + 1) k) (λ h next e.
+      told-pick (eqb (getD ts at 0) 3) (done e) (told-join (getD ts at 0) h (told-at d (next .token) (next .prim))))))
 
   -- The next step is the first step of the next primitive.
-  pub next-step : (d at k : ℕ) {h : Bool} {n p s : ℕ} → eval d at k ≡ Done h n p s → s ≡ before p
+  pub next-step : (d at k : ℕ) {h : Bool} {next : Spot} → eval d at k ≡ Done h next → next .step ≡ before (next .prim)
   next-step d at k e = told-step (told-at d at k) e
 
   -- The tokens from a place on.
@@ -126,14 +126,17 @@ module _ (verdict : ℕ → Bool) (before : ℕ → ℕ) (count : ℕ) (ts : Lis
   past-of : (at : ℕ) (x r : List ℕ) → drop at ts ≡ x ++ r → drop (at + length x) ts ≡ r
   past-of at x r e = sym (drop-drop (length x) at ts) ∙ ap (drop (length x)) e ∙ drop-append-seam x r
 
+  abbrev pub behind : ℕ → ℕ → Spot
+  behind at k = record { token = at; prim = k; step = before k }
+
   -- A tree whose tokens begin at a place, with what stands behind them.
   abbrev pub Found : Tree → ℕ → ℕ → ℕ → Type 0
-  Found t d at k = eval d at k ≡ Done (holds verdict t k) (at + length (flat t)) (k + leaves t) (before (k + leaves t))
+  Found t d at k = eval d at k ≡ Done (holds verdict t k) (behind (at + length (flat t)) (k + leaves t))
 
   two : (tok : ℕ) (a b : Tree) (d at k : ℕ) (r : List ℕ) → (tok ≡ 0 → ⊥) → (tok ≡ 3 → ⊥) → (d ≡ 0 → ⊥)
       → drop at ts ≡ tok ∷ r → Found a (d - 1) (at + 1) k → Found b (d - 1) (at + 1 + length (flat a)) (k + leaves a)
       → eval d at k
-      ≡ Done (joinBool tok (holds verdict a k) (holds verdict b (k + leaves a))) (at + suc (length (flat a ++ flat b))) (k + (leaves a + leaves b)) (before (k + (leaves a + leaves b)))
+      ≡ Done (joinBool tok (holds verdict a k) (holds verdict b (k + leaves a))) (behind (at + suc (length (flat a ++ flat b))) (k + (leaves a + leaves b)))
   two tok a b d at k r n0 n3 nd e ea eb =
       let tk = token at tok r e in
       let z : at + 1 + length (flat a) + length (flat b) ≡ at + suc (length (flat a ++ flat b)) = omega (arith, length-append (flat a) (flat b)) in
@@ -141,14 +144,14 @@ module _ (verdict : ℕ → Bool) (before : ℕ → ℕ) (count : ℕ) (ts : Lis
       walk-both d at k nd (here at tok r e) (λ q. n0 (sym tk ∙ q)) ea (λ q. n3 (sym tk ∙ q)) (sym eb) ∙ rw (tk, z, v)
 
   one : (a : Tree) (d at k : ℕ) (r : List ℕ) → (d ≡ 0 → ⊥) → drop at ts ≡ 3 ∷ r → Found a (d - 1) (at + 1) k
-      → eval d at k ≡ Done (not (holds verdict a k)) (at + suc (length (flat a))) (k + leaves a) (before (k + leaves a))
+      → eval d at k ≡ Done (not (holds verdict a k)) (behind (at + suc (length (flat a))) (k + leaves a))
   one a d at k r nd e ea =
       let tk = token at 3 r e in
       let z : at + 1 + length (flat a) ≡ at + suc (length (flat a)) = omega arith in
       walk-not d at k nd (here at 3 r e) (λ q. omega arith) ea tk ∙ rw z
 
   lone : (d at k : ℕ) (r : List ℕ) → (d ≡ 0 → ⊥) → drop at ts ≡ 0 ∷ r → k < count
-      → eval d at k ≡ Done (verdict k) (at + 1) (k + 1) (before (k + 1))
+      → eval d at k ≡ Done (verdict k) (behind (at + 1) (k + 1))
   unfolding leafOf
   lone d at k r nd e l = rw (walk-leaf d at k nd (here at 0 r e) (token at 0 r e), lt-ltb k count l)
 

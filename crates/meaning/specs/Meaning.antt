@@ -1,4 +1,4 @@
--- What each test means: document 01, "What each test means", sentence by sentence. A test that is refused on its link means nothing, and is false here.
+-- What each test means: document 01, "What each test means", sentence by sentence. A test that is refused means nothing: what stands here for it is never asked.
 use Prim.Native.Nat.{ℕ, zero, suc, _+_, _-_, _*_, _/_, _%_, _^_}
 use mathlib.Core.List.{List}
 use mathlib.Core.Bool.{Bool, true, false, cond, not, _&&_, _||_}

@@ -1,5 +1,6 @@
 // The evaluator: what a sheet says of a frame.
 use crate::walk::Eval;
+use crate::walk::Spot;
 use crate::walk::eval_at;
 use checks::check::Checked;
 use checks::check::check_sheet;
@@ -46,17 +47,18 @@ fn judge(link: LinkType, steps: &[u8], prims: &[u8], tokens: &[u8], b: u16, fram
     requires { ⌜ (shapeOf (now tokens) ≡ Whole b) × (stepsBefore (now prims) b < 2 ^ 32) ⌝ }
     ensures { λ r. ⌜ r ≡ judge link (now (steps .entry)) (now (prims .entry)) (now (tokens .entry)) b (now (frame .entry)) ⌝ }
 {
-    match eval_at(link, steps, prims, tokens, frame, b, 0, 0, 0, 256) {
-        Eval::Done {
-            holds,
-            next: _,
-            prim: _,
-            step: _,
-        } => refused_or(link, steps, prims, b, holds),
+    let start = Spot {
+        token: 0,
+        prim: 0,
+        step: 0,
+    };
+    match eval_at(link, steps, prims, tokens, frame, b, start, 256) {
+        Eval::Done { holds, next: _ } => refused_or(link, steps, prims, b, holds),
         Eval::TooDeep => Verdict::Refused {
             number: 9,
             place: 0,
         },
+        // Never met where the tokens are one tree.
         Eval::Broken => Verdict::Refused {
             number: 4,
             place: 0,
@@ -75,19 +77,22 @@ pub fn evaluate(sheet: &[u8], link: u8, frame: &[u8]) -> Verdict
             prims,
             tokens,
         } => {
-            let x = 5 * (steps as usize);
-            let y = x + 24 * (prims as usize);
-            let z = y + (tokens as usize);
-            let a = x + 2;
-            let p = x + 4;
-            let b = y + 4;
-            let t = y + 6;
-            let c = z + 6;
+            let upto_steps = 5 * (steps as usize);
+            let upto_prims = upto_steps + 24 * (prims as usize);
+            let upto_tokens = upto_prims + (tokens as usize);
+            let steps_end = upto_steps + 2;
+            let prims_start = upto_steps + 4;
+            let prims_end = upto_prims + 4;
+            let tokens_start = upto_prims + 6;
+            let tokens_end = upto_tokens + 6;
+            let steps_part = &sheet[2..steps_end];
+            let prims_part = &sheet[prims_start..prims_end];
+            let tokens_part = &sheet[tokens_start..tokens_end];
             judge(
                 link_of(link),
-                &sheet[2..a],
-                &sheet[p..b],
-                &sheet[t..c],
+                steps_part,
+                prims_part,
+                tokens_part,
                 prims,
                 frame,
             )

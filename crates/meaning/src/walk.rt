@@ -4,19 +4,23 @@ use checks::check::takes_steps;
 use filter::ast::LinkType;
 use filter::record::primitive_at;
 ghost use mathlib.Core.Path.{_≡_};
+ghost use mathlib.Core.Bool.{not};
 ghost use Prim.Native.Nat.{_<_, _^_};
 ghost use Rattle.checks.specs.Check.{stepsBefore};
 ghost use Rattle.meaning.specs.Evaluate.{primitiveHolds};
+ghost use Rattle.meaning.specs.declared.walk.Eval.the-variants.{Done};
 ghost use Rattle.meaning.specs.Walk.{joinBool, joinOf, leafOf, evalAt};
 
-// A tree's value, with the token, the primitive and the step that come next.
+// A token, with the primitive and the step that come next there.
+pub struct Spot {
+    pub token: usize,
+    pub prim: u32,
+    pub step: u32,
+}
+
+// A tree's value, and where the tokens after it begin.
 pub enum Eval {
-    Done {
-        holds: bool,
-        next: usize,
-        prim: u32,
-        step: u32,
-    },
+    Done { holds: bool, next: Spot },
     TooDeep,
     Broken,
 }
@@ -31,57 +35,52 @@ fn join_bool(t: u8, a: bool, b: bool) -> bool
     }
 }
 
+fn denied(a: bool, next: Spot) -> Eval
+    ensures { λ r. ⌜ r ≡ Done (not a) next ⌝ }
+{
+    Eval::Done { holds: !a, next }
+}
+
 // And or Or of a value and what the second operand gives.
 fn join(t: u8, a: bool, second: Eval) -> Eval
     ensures { λ r. ⌜ r ≡ joinOf t a second ⌝ }
 {
     match second {
-        Eval::Done {
-            holds,
-            next,
-            prim,
-            step,
-        } => Eval::Done {
+        Eval::Done { holds, next } => Eval::Done {
             holds: join_bool(t, a, holds),
             next,
-            prim,
-            step,
         },
         Eval::TooDeep => Eval::TooDeep,
         Eval::Broken => Eval::Broken,
     }
 }
 
-// The next primitive, of `count`; its steps start at `step`.
-fn leaf_at(
-    link: LinkType,
-    steps: &[u8],
-    prims: &[u8],
-    frame: &[u8],
-    count: u16,
-    next: usize,
-    prim: u32,
-    step: u32,
-) -> Eval
-    requires { ⌜ (step ≡ stepsBefore (now prims) prim) × (stepsBefore (now prims) count < 2 ^ 32) ⌝ }
-    ensures { λ r. ⌜ r ≡ leafOf (primitiveHolds link (now (steps .entry)) (now (prims .entry)) (now (frame .entry))) (stepsBefore (now (prims .entry))) count next prim ⌝ }
+// The next primitive, of `count`, whose token is read already.
+fn leaf_at(link: LinkType, steps: &[u8], prims: &[u8], frame: &[u8], count: u16, spot: Spot) -> Eval
+    requires { ⌜ (spot .step ≡ stepsBefore (now prims) (spot .prim)) × (stepsBefore (now prims) count < 2 ^ 32) ⌝ }
+    ensures { λ r. ⌜ r ≡ leafOf (primitiveHolds link (now (steps .entry)) (now (prims .entry)) (now (frame .entry))) (stepsBefore (now (prims .entry))) count (spot .token) (spot .prim) ⌝ }
 {
-    if prim < count as u32 {
-        let p = primitive_at(prims, prim);
-        let holds = means(link, frame, steps, step, p);
-        let taken = takes_steps(prims, prim) as u32;
+    let k = spot.prim;
+    let from = spot.step;
+    let token = spot.token;
+    if k < count as u32 {
+        let prim = primitive_at(prims, k);
+        let holds = means(link, frame, steps, from, prim);
+        let taken = takes_steps(prims, k) as u32;
         Eval::Done {
             holds,
-            next,
-            prim: prim + 1,
-            step: step + taken,
+            next: Spot {
+                token,
+                prim: k + 1,
+                step: from + taken,
+            },
         }
     } else {
         Eval::Broken
     }
 }
 
-// The tree that begins at token `at`, of at most `depth` levels.
+// The tree that begins at the spot, of at most `depth` levels.
 pub(crate) fn eval_at(
     link: LinkType,
     steps: &[u8],
@@ -89,63 +88,31 @@ pub(crate) fn eval_at(
     tokens: &[u8],
     frame: &[u8],
     count: u16,
-    at: usize,
-    prim: u32,
-    step: u32,
+    spot: Spot,
     depth: u16,
 ) -> Eval
-    requires { ⌜ (step ≡ stepsBefore (now prims) prim) × (stepsBefore (now prims) count < 2 ^ 32) ⌝ }
-    ensures { λ r. ⌜ r ≡ evalAt (primitiveHolds link (now (steps .entry)) (now (prims .entry)) (now (frame .entry))) (stepsBefore (now (prims .entry))) count depth (now (tokens .entry)) at prim ⌝ }
+    requires { ⌜ (spot .step ≡ stepsBefore (now prims) (spot .prim)) × (stepsBefore (now prims) count < 2 ^ 32) ⌝ }
+    ensures { λ r. ⌜ r ≡ evalAt (primitiveHolds link (now (steps .entry)) (now (prims .entry)) (now (frame .entry))) (stepsBefore (now (prims .entry))) count depth (now (tokens .entry)) (spot .token) (spot .prim) ⌝ }
 {
     if depth == 0 {
         return Eval::TooDeep;
     }
+    let at = spot.token;
     if tokens.len() <= at {
         return Eval::Broken;
     }
     let t = tokens[at];
-    let d = depth - 1;
+    let mut after = spot;
+    after.token = at + 1;
     if t == 0 {
-        return leaf_at(link, steps, prims, frame, count, at + 1, prim, step);
+        return leaf_at(link, steps, prims, frame, count, after);
     }
-    match eval_at(
-        link,
-        steps,
-        prims,
-        tokens,
-        frame,
-        count,
-        at + 1,
-        prim,
-        step,
-        d,
-    ) {
-        Eval::Done {
-            holds,
-            next,
-            prim,
-            step,
-        } => {
+    match eval_at(link, steps, prims, tokens, frame, count, after, depth - 1) {
+        Eval::Done { holds, next } => {
             if t == 3 {
-                return Eval::Done {
-                    holds: !holds,
-                    next,
-                    prim,
-                    step,
-                };
+                return denied(holds, next);
             }
-            let second = eval_at(
-                link,
-                steps,
-                prims,
-                tokens,
-                frame,
-                count,
-                next,
-                prim,
-                step,
-                d,
-            );
+            let second = eval_at(link, steps, prims, tokens, frame, count, next, depth - 1);
             join(t, holds, second)
         }
         Eval::TooDeep => Eval::TooDeep,

@@ -4,15 +4,15 @@
 //   S link(1) mode(1) sheet-length(4) sheet: the refusal and its place, or 0, the sheet's three counts and L.
 //   E link(1) sheet-length(4) sheet frame-length(4) frame: the refusal and its place, or 0 and whether the expression holds.
 // A case that is cut, has another tag or is longer than its buffers ends the run with a line that says which case it is.
-use checks::check::check_sheet_mode;
 use checks::check::Checked;
-use checks::measure::measure;
+use checks::check::check_sheet_mode;
 use checks::measure::Measured;
+use checks::measure::measure;
 use ebpf::run;
 use libc::STDIN_FILENO;
 use libc::STDOUT_FILENO;
-use meaning::evaluate::evaluate;
 use meaning::evaluate::Verdict;
+use meaning::evaluate::evaluate;
 ghost use Prim.Native.Nat.{_<_, _^_};
 ghost use lib.ListN.{length};
 ghost use Rattle.replay.specs.Part.{Within};
@@ -119,7 +119,12 @@ fn print_refusal(number: u8, place: u32) {
 fn run_measure(sheet: &[u8], link: u8) {
     match measure(sheet, link) {
         Measured::Refused { number, place } => print_refusal(number, place),
-        Measured::Length { steps, prims, tokens, length } => {
+        Measured::Length {
+            steps,
+            prims,
+            tokens,
+            length,
+        } => {
             io::write_all(STDOUT_FILENO, b"0 ");
             print_number(steps as u64, b" ");
             print_number(prims as u64, b" ");
@@ -132,7 +137,11 @@ fn run_measure(sheet: &[u8], link: u8) {
 fn run_check(sheet: &[u8], link: u8, mode: u8) {
     match check_sheet_mode(sheet, link, mode) {
         Checked::Refused { number, place } => print_refusal(number, place),
-        Checked::Good { steps: _, prims: _, tokens: _ } => run_measure(sheet, link),
+        Checked::Good {
+            steps: _,
+            prims: _,
+            tokens: _,
+        } => run_measure(sheet, link),
     }
 }
 

@@ -17,7 +17,6 @@ pub mod Decided
 pub mod Trees
 pub mod Fitting
 pub mod FittingPrimitives
-pub mod Lengths
 pub mod ProgramLength
 pub mod ShortPrograms
 pub mod Decoded

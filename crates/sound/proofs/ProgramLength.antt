@@ -20,7 +20,7 @@ use Rattle.meaning.specs.Evaluate.{refusalAt}
 use Rattle.sound.specs.Filled.{filled}
 use Rattle.sound.specs.Trees.{landed, swapped, both-of, none-of, treeCode, epilogue, program}
 use Rattle.sound.specs.Sheets.{primitiveCode, sheetCode, Allowed}
-use Rattle.sound.proofs.Lengths.{length-settled, primitive-length}
+use Rattle.codegen.proofs.Sizes.{settled-length, primitive-length}
 
 length-landed : (k : ℕ) (xs : List Slot) → length (landed k xs) ≡ length xs
 unfolding landed
@@ -49,13 +49,13 @@ and-length xs ys = length-append (landed 0 xs) ys ∙ ap (λ (n : ℕ). n + leng
 
 or-length : (xs ys : List Slot) → length (one-of xs ys) ≡ length xs + suc (length ys)
 unfolding one-of
-or-length xs ys = length-append (settled 1 xs) (success (jump-always 0) ∷ ys) ∙ ap (λ (n : ℕ). n + suc (length ys)) (length-settled 1 xs)
+or-length xs ys = length-append (settled 1 xs) (success (jump-always 0) ∷ ys) ∙ ap (λ (n : ℕ). n + suc (length ys)) (settled-length 1 xs)
 
 not-length : (xs : List Slot) → length (none-of xs) ≡ length xs + 1
 unfolding none-of
 not-length xs =
     length-append (swapped (settled 1 xs)) (failure (jump-always 0) ∷ [])
-    ∙ ap (λ (n : ℕ). n + 1) (length-swapped (settled 1 xs) ∙ length-settled 1 xs)
+    ∙ ap (λ (n : ℕ). n + 1) (length-swapped (settled 1 xs) ∙ settled-length 1 xs)
 
 -- "one for each Or and Not plus the Rust's count for each primitive": `total i` is what the primitives before i have.
 tree-length : (prim : ℕ → List Slot) (total : ℕ → ℕ) (t : Tree) (k : ℕ)

@@ -66,7 +66,7 @@ part-program-length-start c = search needs
 
 part-program-length-end : tie.Need-part-program-length-end
 part-program-length-end c = let a = c .before .before .before .before .before .before .args in
-  omega (arith, sized (now (a .sheet)) (good (now (a .sheet)) (a .link) (sym (c .before .before .before .before .check-sheet .ensures) ∙ c .before .before .steps .given .1) .found))
+    omega (arith, sized (now (a .sheet)) (good (now (a .sheet)) (a .link) (sym (c .before .before .before .before .check-sheet .ensures) ∙ c .before .before .steps .given .1) .found))
 
 sub-program-length-2 : tie.Need-sub-program-length-2
 sub-program-length-2 c = search needs
@@ -76,7 +76,7 @@ part-program-length-start-2 c = search needs
 
 part-program-length-end-2 : tie.Need-part-program-length-end-2
 part-program-length-end-2 c = let a = c .before .before .before .before .before .before .before .args in
-  omega (arith, sized (now (a .sheet)) (good (now (a .sheet)) (a .link) (sym (c .before .before .before .before .before .check-sheet .ensures) ∙ c .before .before .before .steps .given .1) .found))
+    omega (arith, sized (now (a .sheet)) (good (now (a .sheet)) (a .link) (sym (c .before .before .before .before .before .check-sheet .ensures) ∙ c .before .before .before .steps .given .1) .found))
 
 sub-program-length-3 : tie.Need-sub-program-length-3
 sub-program-length-3 c = search needs
@@ -86,7 +86,7 @@ part-program-length-start-3 c = search needs
 
 part-program-length-end-3 : tie.Need-part-program-length-end-3
 part-program-length-end-3 c = let a = c .before .before .before .before .before .before .before .before .args in
-  omega (arith, sized (now (a .sheet)) (good (now (a .sheet)) (a .link) (sym (c .before .before .before .before .before .before .check-sheet .ensures) ∙ c .before .before .before .before .steps .given .1) .found))
+    omega (arith, sized (now (a .sheet)) (good (now (a .sheet)) (a .link) (sym (c .before .before .before .before .before .before .check-sheet .ensures) ∙ c .before .before .before .before .steps .given .1) .found))
 
 program-length-requires : tie.Need-program-length-requires
 program-length-requires c κs = search needs

@@ -18,74 +18,74 @@ enum-known-number c = search needs
 enum-known-steps : tie.Need-enum-known-steps
 enum-known-steps c = search needs
 
-cast-x : tie.Need-cast-x
-cast-x c = search needs
+cast-upto-steps : tie.Need-cast-upto-steps
+cast-upto-steps c = search needs
 
-mul-x : tie.Need-mul-x
-mul-x c = search needs
+mul-upto-steps : tie.Need-mul-upto-steps
+mul-upto-steps c = search needs
 
-cast-y : tie.Need-cast-y
-cast-y c = search needs
+cast-upto-prims : tie.Need-cast-upto-prims
+cast-upto-prims c = search needs
 
-mul-y : tie.Need-mul-y
-mul-y c = search needs
+mul-upto-prims : tie.Need-mul-upto-prims
+mul-upto-prims c = search needs
 
-add-y : tie.Need-add-y
-add-y c = search needs
+add-upto-prims : tie.Need-add-upto-prims
+add-upto-prims c = search needs
 
-cast-z : tie.Need-cast-z
-cast-z c = search needs
+cast-upto-tokens : tie.Need-cast-upto-tokens
+cast-upto-tokens c = search needs
 
-add-z : tie.Need-add-z
-add-z c = search needs
+add-upto-tokens : tie.Need-add-upto-tokens
+add-upto-tokens c = search needs
 
-add-a : tie.Need-add-a
-add-a c = search needs
+add-steps-end : tie.Need-add-steps-end
+add-steps-end c = search needs
 
-add-p : tie.Need-add-p
-add-p c = search needs
+add-prims-start : tie.Need-add-prims-start
+add-prims-start c = search needs
 
-add-b : tie.Need-add-b
-add-b c = search needs
+add-prims-end : tie.Need-add-prims-end
+add-prims-end c = search needs
 
-add-t : tie.Need-add-t
-add-t c = search needs
+add-tokens-start : tie.Need-add-tokens-start
+add-tokens-start c = search needs
 
-add-c : tie.Need-add-c
-add-c c = search needs
+add-tokens-end : tie.Need-add-tokens-end
+add-tokens-end c = search needs
+
+sub-steps-part : tie.Need-sub-steps-part
+sub-steps-part c = search needs
+
+part-steps-part-start : tie.Need-part-steps-part-start
+part-steps-part-start c = search needs
+
+part-steps-part-end : tie.Need-part-steps-part-end
+part-steps-part-end c = let a = c .before .before .before .before .before .before .args in
+    omega (arith, good-parts (now (a .sheet)) (a .link) (sym (c .before .before .before .check-sheet .ensures) ∙ c .before .steps .given .1) .size)
+
+sub-prims-part : tie.Need-sub-prims-part
+sub-prims-part c = search needs
+
+part-prims-part-start : tie.Need-part-prims-part-start
+part-prims-part-start c = search needs
+
+part-prims-part-end : tie.Need-part-prims-part-end
+part-prims-part-end c = let a = c .before .before .before .before .before .before .before .args in
+    omega (arith, good-parts (now (a .sheet)) (a .link) (sym (c .before .before .before .before .check-sheet .ensures) ∙ c .before .before .steps .given .1) .size)
+
+sub-tokens-part : tie.Need-sub-tokens-part
+sub-tokens-part c = search needs
+
+part-tokens-part-start : tie.Need-part-tokens-part-start
+part-tokens-part-start c = search needs
+
+part-tokens-part-end : tie.Need-part-tokens-part-end
+part-tokens-part-end c = let a = c .before .before .before .before .before .before .before .before .args in
+    omega (arith, good-parts (now (a .sheet)) (a .link) (sym (c .before .before .before .before .before .check-sheet .ensures) ∙ c .before .before .before .steps .given .1) .size)
 
 link-of-requires : tie.Need-link-of-requires
 link-of-requires c κs = search needs
-
-sub-judge : tie.Need-sub-judge
-sub-judge c = search needs
-
-part-judge-start : tie.Need-part-judge-start
-part-judge-start c = search needs
-
-part-judge-end : tie.Need-part-judge-end
-part-judge-end c = let a = c .before .before .before .before .before .before .before .args in
-    omega (arith, good-parts (now (a .sheet)) (a .link) (sym (c .before .before .before .before .check-sheet .ensures) ∙ c .before .before .steps .given .1) .size)
-
-sub-judge-2 : tie.Need-sub-judge-2
-sub-judge-2 c = search needs
-
-part-judge-start-2 : tie.Need-part-judge-start-2
-part-judge-start-2 c = search needs
-
-part-judge-end-2 : tie.Need-part-judge-end-2
-part-judge-end-2 c = let a = c .before .before .before .before .before .before .before .before .args in
-    omega (arith, good-parts (now (a .sheet)) (a .link) (sym (c .before .before .before .before .before .check-sheet .ensures) ∙ c .before .before .before .steps .given .1) .size)
-
-sub-judge-3 : tie.Need-sub-judge-3
-sub-judge-3 c = search needs
-
-part-judge-start-3 : tie.Need-part-judge-start-3
-part-judge-start-3 c = search needs
-
-part-judge-end-3 : tie.Need-part-judge-end-3
-part-judge-end-3 c = let a = c .before .before .before .before .before .before .before .before .before .args in
-    omega (arith, good-parts (now (a .sheet)) (a .link) (sym (c .before .before .before .before .before .before .check-sheet .ensures) ∙ c .before .before .before .before .steps .given .1) .size)
 
 judge-requires : tie.Need-judge-requires
 unfolding primsPart tokensPart
@@ -99,7 +99,7 @@ returns c = rw (← c .before .before .before .check-sheet .ensures, c .before .
 
 returns-2 : tie.Need-returns-2
 unfolding evaluateOf evaluated stepsPart primsPart tokensPart
-returns-2 c = rw (← c .before .before .before .before .before .before .before .before .check-sheet .ensures, c .before .before .before .before .before .before .steps .given .1, ← c .before .before .before .before .link-of .ensures) (c .judge .ensures)
+returns-2 c = rw (← c .before .before .before .before .before .before .before .before .check-sheet .ensures, c .before .before .before .before .before .before .steps .given .1, ← c .before .link-of .ensures) (c .judge .ensures)
 
 pub evaluate-spec : {M : Type 1} → statement M
 evaluate-spec =
@@ -108,28 +108,28 @@ evaluate-spec =
     check-sheet-requires
     enum-known-number
     enum-known-steps
-    cast-x
-    mul-x
-    cast-y
-    mul-y
-    add-y
-    cast-z
-    add-z
-    add-a
-    add-p
-    add-b
-    add-t
-    add-c
+    cast-upto-steps
+    mul-upto-steps
+    cast-upto-prims
+    mul-upto-prims
+    add-upto-prims
+    cast-upto-tokens
+    add-upto-tokens
+    add-steps-end
+    add-prims-start
+    add-prims-end
+    add-tokens-start
+    add-tokens-end
+    sub-steps-part
+    part-steps-part-start
+    part-steps-part-end
+    sub-prims-part
+    part-prims-part-start
+    part-prims-part-end
+    sub-tokens-part
+    part-tokens-part-start
+    part-tokens-part-end
     link-of-requires
-    sub-judge
-    part-judge-start
-    part-judge-end
-    sub-judge-2
-    part-judge-start-2
-    part-judge-end-2
-    sub-judge-3
-    part-judge-start-3
-    part-judge-end-3
     judge-requires
     returns
     returns-2)

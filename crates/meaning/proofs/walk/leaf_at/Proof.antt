@@ -25,20 +25,20 @@ takes-steps-requires c κs = search needs
 cast-taken : tie.Need-cast-taken
 cast-taken c = search needs
 
-add-t16 : tie.Need-add-t16
-add-t16 c = search needs
-
 add-t17 : tie.Need-add-t17
-add-t17 c = let a = c .before .before .before .before .before .before .before .args in let s = now (a .prims) in
-    let more : stepsBefore s (a .prim + 1) ≤ stepsBefore s (a .count) = before-grows s (a .prim + 1) (a .count) (omega arith) in
-    omega (arith, before-more s (a .prim))
+add-t17 c = search needs
+
+add-t18 : tie.Need-add-t18
+add-t18 c = let a = c .before .before .before .before .before .before .before .args in let s = now (a .prims) in
+    let more : stepsBefore s (a .spot .prim + 1) ≤ stepsBefore s (a .count) = before-grows s (a .spot .prim + 1) (a .count) (omega arith) in
+    omega (arith, before-more s (a .spot .prim))
 
 returns : tie.Need-returns
 unfolding leafOf primitiveHolds
 returns c = let a = c .before .before .before .before .before .before .before .args in let s = now (a .prims) in
     let first = c .before .before .before .before .before .before .before .pre .0 in
-    let step : a .step + c .takes-steps .result ≡ stepsBefore s (a .prim + 1) = omega (arith, before-more s (a .prim)) in
-    rw (lt-ltb (a .prim) (a .count) (c .before .before .before .if1 .taken), ← step, ← first, ← c .before .before .primitive-at .ensures, ← c .before .means .ensures)
+    let step : a .spot .step + c .takes-steps .result ≡ stepsBefore s (a .spot .prim + 1) = omega (arith, before-more s (a .spot .prim)) in
+    rw (lt-ltb (a .spot .prim) (a .count) (c .before .before .before .if1 .taken), ← step, ← first, ← c .before .before .primitive-at .ensures, ← c .before .means .ensures)
 
 returns-2 : tie.Need-returns-2
 unfolding leafOf
@@ -52,7 +52,7 @@ leaf-at-spec =
     means-requires
     takes-steps-requires
     cast-taken
-    add-t16
     add-t17
+    add-t18
     returns
     returns-2)

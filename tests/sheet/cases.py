@@ -49,6 +49,15 @@ def S(link, mode, sheet, want=None, L=None, R=None):
         E(link, sheet, b'', R)
 
 
+def admitted(link, mode, sheet, output, work, want):
+    """A sheet and the sizes of the lent places.  Stated: want, the refusal or number 0 alone."""
+    answer = admit(link, mode, sheet, output, work)
+    ok = answer[0] == 0 if want == 0 else answer == want
+    assert ok, ('A', link, mode, show(sheet), output, work, 'meant', want, 'model', answer)
+    add('A', b'A' + output.to_bytes(8, 'big') + work.to_bytes(8, 'big') + bytes([link, mode])
+        + four(len(sheet)) + sheet, answer, True)
+
+
 def E(link, sheet, frame, want=None):
     """A sheet and a frame.  Stated: want, True, False or the refusal."""
     if not isinstance(sheet, bytes):
@@ -1383,23 +1392,50 @@ def refused():
             E(RAWIP, tree, frame, (11, 0))
 
 
+# ------------------------------------------------------------ refusals 7 and 8
+
+def room():
+    """The sheets of the S cases, with lent places of exactly the size, one less, none and the most."""
+    most = 2 ** 64 - 1
+    sheets = [(d[1], d[2], d[7:], answer) for letter, d, answer, _ in cases if letter == 'S']
+    lengths = set()
+    told = {}
+    for link, mode, sheet, answer in sheets:
+        if answer[0]:                               # 1 to 6 come first
+            told[answer[0]] = told.get(answer[0], 0) + 1
+            if told[answer[0]] <= 5:
+                admitted(link, mode, sheet, 0, 0, answer)
+            continue
+        L, tokens = answer[4], answer[3]
+        if (L, tokens) in lengths or len(sheet) > 4096:
+            continue
+        lengths.add((L, tokens))
+        admitted(link, mode, sheet, 8 * L, L + 8 * tokens, 0)
+        admitted(link, mode, sheet, most, most, 0)
+        admitted(link, mode, sheet, 8 * L - 1, most, (7, 0))
+        admitted(link, mode, sheet, 8 * L - 1, 0, (7, 0))
+        admitted(link, mode, sheet, 0, L + 8 * tokens, (7, 0))
+        admitted(link, mode, sheet, 8 * L, L + 8 * tokens - 1, (8, 0))
+        admitted(link, mode, sheet, most, 0, (8, 0))
+
+
 # ======================================================================= main
 
 PARTS = [worked_examples, every_kind, prefixes, wrong_bytes, wrong_dependent, wrong_sections, lengths,
          links_and_modes, trees, large, offsets, shifts, first_refusals, any_sheets,
          hosts4, nets4, hosts6, nets6, ports_, header_lengths, protocols, macs, groups, tags, frame_lengths,
-         accesses, steps_, logic, depths, refused]
+         accesses, steps_, logic, depths, refused, room]
 
 
 def kinds_of(data):
     """The kinds in a case's sheet, if its sections can be found."""
-    at = 7 if data[:1] == b'S' else 6
+    at = {b'S': 7, b'A': 23, b'E': 6}[data[:1]]
     parts = sections(data[at:at + number(data[at - 4:at])])
     return {r[0] for r in records(parts[1][1], 24)} if parts else set()
 
 
 def tell():
-    for letter in 'SE':
+    for letter in 'SAE':
         mine = [x for x in cases if x[0] == letter]
         print('%s: %d cases, %d with a stated answer' % (letter, len(mine), sum(x[3] for x in mine)))
         count = {}
@@ -1407,7 +1443,7 @@ def tell():
             if letter == 'E':
                 key = {0: 'does not hold', 1: 'holds'}[answer[1]] if answer[0] == 0 else 'refusal %d' % answer[0]
             else:
-                key = ('accepted' if answer[5] == 0 else 'accepted, first refused primitive %d' % answer[5]
+                key = ('accepted' if letter == 'A' or answer[5] == 0 else 'accepted, first refused primitive %d' % answer[5]
                        ) if answer[0] == 0 else 'refusal %d' % answer[0]
             count[key] = count.get(key, 0) + 1
         for key in sorted(count, key=lambda k: (k[0], len(k), k)):
@@ -1415,6 +1451,8 @@ def tell():
     print('kind              S accepted  S refused   E holds  E does not  E refused')
     table = {}
     for letter, data, answer, _ in cases:
+        if letter == 'A':
+            continue
         column = (0 if answer[0] == 0 else 1) if letter == 'S' else (
             4 if answer[0] else 2 if answer[1] == 1 else 3)
         for kind in kinds_of(data):

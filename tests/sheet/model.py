@@ -1,4 +1,4 @@
-"""Document 01 in plain Python: the sheet, refusals 1 to 6, 9 and 11 to 19,
+"""Document 01 in plain Python: the sheet, refusals 1 to 9 and 11 to 19,
 the program's length L, and what each test means.
 
 Byte strings in, plain tuples and numbers out.  Quoted lines are document 01's.
@@ -348,6 +348,20 @@ def length(sheet, link):
     return 6 + tokens.count(OR) + tokens.count(NOT) + sum(
         instructions(r, steps, link) for r, steps in primitives
         if not refusal_of(r, steps, link))
+
+
+def admit(link, mode, sheet, output, work):
+    """Refusals 1 to 8: "output below 8 x L bytes", "work below L + 8 x tokens
+    numbers of 32 bits"; or 0, the three counts and L."""
+    answer = check(link, mode, sheet)
+    if answer[0]:
+        return answer
+    L = length(sheet, link)
+    if output < 8 * L:
+        return (7, 0)
+    if work < L + 8 * answer[3]:
+        return (8, 0)
+    return answer + (L,)
 
 
 # ------------------------------------------------------ what each test means

@@ -41,6 +41,8 @@ use Rattle.checks.specs.Refusal.{refusal}
 use Rattle.checks.specs.Length.{ethertypeSize, sides, clip, net6Side, l4Size, prereqSize, dualSize, protoSize, idSize, labelSize, cmpSize, swapSize, layerSize, accessSize, countOf, sizeOf, sizeAt, sizesOf, programLength}
 use Rattle.checks.specs.declared.check.Checked.{Checked}
 use Rattle.checks.specs.declared.check.Checked.the-variants.{Refused, Good}
+use Rattle.checks.specs.Measure.{measured, measureOf}
+use Rattle.checks.specs.declared.measure.Measured.the-variants.{Length}
 use Rattle.tree.specs.Shape.{shapeOf}
 
 -- the steps that a primitive takes
@@ -338,3 +340,17 @@ pub good-length : (s : List ℕ) (link : ℕ) {a b c : ℕ} → checkOf s link �
 good-length s link {a} {b} {c} e =
     let t = good s link e .parts .taken in
     omega (arith, length-le (linkOf link) (stepsPart s a) (primsPart s a b) (tokensPart s a b c) b c)
+
+-- a measured sheet's L
+pub measured-length : (s : List ℕ) (link : ℕ) {a b c l : ℕ} → measureOf s link ≡ Length a b c l → l ≤ 6 + c + 128 * b + a
+unfolding measureOf measured
+measured-length s link {a} {b} {c} {l} = on-check (checkOf s link) refl
+  where
+    on-check : (x : Checked) → checkOf s link ≡ x → measured x s link ≡ Length a b c l → l ≤ 6 + c + 128 * b + a
+    on-check (Refused number place) e m = let never : _≡_ {A = ℕ} 0 1 = cc in absurd (omega arith)
+    on-check (Good x y z) e m =
+        let ea : a ≡ x = cc in
+        let eb : b ≡ y = cc in
+        let ec : c ≡ z = cc in
+        let el : l ≡ programLength (linkOf link) (stepsPart s x) (primsPart s x y) (tokensPart s x y z) y z = cc in
+        omega (arith, good-length s link e)

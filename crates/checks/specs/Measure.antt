@@ -1,6 +1,8 @@
--- A sheet that passes refusals 1 to 6, with its counts and L.
-use Prim.Native.Nat.{ℕ}
+-- A sheet that passes refusals 1 to 6, with its counts and L; and refusals 7 and 8, which need L.
+use Prim.Native.Nat.{ℕ, _+_, _*_}
 use mathlib.Core.List.{List}
+use mathlib.Core.Bool.{cond}
+use lib.Dec.{ltb}
 use Rattle.filter.specs.Ast.{linkOf}
 use Rattle.filter.specs.Sheet.{stepsPart, primsPart, tokensPart}
 use Rattle.checks.specs.Check.{checkOf}
@@ -17,3 +19,13 @@ measured (answer.Good a b c) s link =
 
 unfoldable pub measureOf : List ℕ → ℕ → Measured
 measureOf s link = measured (checkOf s link) s link
+
+-- Refusal 7: "output below 8 x L bytes"; then 8: "work below L + 8 x tokens numbers of 32 bits"
+unfoldable pub roomed : Measured → ℕ → ℕ → Measured
+roomed (Refused number place) output work = Refused number place
+roomed (Length a b c l) output work =
+    cond (ltb output (8 * l)) (Refused 7 0) (cond (ltb work (l + 8 * c)) (Refused 8 0) (Length a b c l))
+
+-- Refusals 1 to 8, in order: "link or mode above 1" comes first
+unfoldable pub admitOf : List ℕ → ℕ → ℕ → ℕ → ℕ → Measured
+admitOf s link mode output work = cond (ltb 1 mode) (Refused 1 0) (roomed (measureOf s link) output work)

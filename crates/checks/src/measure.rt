@@ -1,10 +1,10 @@
-// The whole sheet measured: refusals 1 to 6, or its counts and L.
+// The whole sheet measured: refusals 1 to 6, or its counts and L; then 7 and 8, for the lent places.
 use crate::check::Checked;
 use crate::check::check_sheet;
 use crate::length::program_length;
 use filter::ast::link_of;
 ghost use mathlib.Core.Path.{_≡_};
-ghost use Rattle.checks.specs.Measure.{measureOf};
+ghost use Rattle.checks.specs.Measure.{measureOf, admitOf};
 
 // A refusal with its place, or what the sheet asks.
 pub enum Measured {
@@ -52,6 +52,46 @@ pub fn measure(sheet: &[u8], link: u8) -> Measured
                 prims,
                 tokens,
                 length,
+            }
+        }
+    }
+}
+
+// Refusals 1 to 8: the output is given in bytes, the work in numbers of 32 bits.
+pub fn admit(sheet: &[u8], link: u8, mode: u8, output: u64, work: u64) -> Measured
+    ensures { λ r. ⌜ r ≡ admitOf (now (sheet .entry)) link mode output work ⌝ }
+{
+    if 1 < mode {
+        return Measured::Refused {
+            number: 1,
+            place: 0,
+        };
+    }
+    match measure(sheet, link) {
+        Measured::Refused { number, place } => Measured::Refused { number, place },
+        Measured::Length {
+            steps,
+            prims,
+            tokens,
+            length,
+        } => {
+            if output < 8 * length {
+                Measured::Refused {
+                    number: 7,
+                    place: 0,
+                }
+            } else if work < length + 8 * (tokens as u64) {
+                Measured::Refused {
+                    number: 8,
+                    place: 0,
+                }
+            } else {
+                Measured::Length {
+                    steps,
+                    prims,
+                    tokens,
+                    length,
+                }
             }
         }
     }

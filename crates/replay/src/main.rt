@@ -2,11 +2,13 @@
 // case prints its answer on a line.
 //   M program-length(4) program frame-length(4) frame start(8) budget(4): the machine's stop, R0 and steps.
 //   S link(1) mode(1) sheet-length(4) sheet: the refusal and its place, or 0, the sheet's three counts and L.
+//   A output(8) work(8) link(1) mode(1) sheet-length(4) sheet: the same, with refusals 7 and 8 for lent places of these sizes.
 //   E link(1) sheet-length(4) sheet frame-length(4) frame: the refusal and its place, or 0 and whether the expression holds.
 // A case that is cut, has another tag or is longer than its buffers ends the run with a line that says which case it is.
 use checks::check::Checked;
 use checks::check::check_sheet_mode;
 use checks::measure::Measured;
+use checks::measure::admit;
 use checks::measure::measure;
 use ebpf::run;
 use libc::STDIN_FILENO;
@@ -116,8 +118,8 @@ fn print_refusal(number: u8, place: u32) {
     print_number(place as u64, b"\n");
 }
 
-fn run_measure(sheet: &[u8], link: u8) {
-    match measure(sheet, link) {
+fn print_measured(answer: Measured) {
+    match answer {
         Measured::Refused { number, place } => print_refusal(number, place),
         Measured::Length {
             steps,
@@ -141,8 +143,12 @@ fn run_check(sheet: &[u8], link: u8, mode: u8) {
             steps: _,
             prims: _,
             tokens: _,
-        } => run_measure(sheet, link),
+        } => print_measured(measure(sheet, link)),
     }
+}
+
+fn run_admit(sheet: &[u8], link: u8, mode: u8, output: u64, work: u64) {
+    print_measured(admit(sheet, link, mode, output, work));
 }
 
 fn sheet_case(sheet: &mut [u8]) -> Next {
@@ -154,6 +160,24 @@ fn sheet_case(sheet: &mut [u8]) -> Next {
         return Next::Broken;
     };
     run_check(&sheet[..n], head[0], head[1]);
+    Next::More
+}
+
+fn admit_case(sheet: &mut [u8]) -> Next {
+    let Number::Value(output) = read8() else {
+        return Next::Broken;
+    };
+    let Number::Value(work) = read8() else {
+        return Next::Broken;
+    };
+    let mut head = [0u8; 2];
+    if io::read_full(STDIN_FILENO, &mut head) < 2 {
+        return Next::Broken;
+    }
+    let Part::Bytes(n) = read_part(sheet) else {
+        return Next::Broken;
+    };
+    run_admit(&sheet[..n], head[0], head[1], output, work);
     Next::More
 }
 
@@ -194,6 +218,7 @@ fn next_case(bytes: &mut [u8], frame: &mut [u8]) -> Next {
     match t {
         b'M' => machine_case(bytes, frame),
         b'S' => sheet_case(bytes),
+        b'A' => admit_case(bytes),
         b'E' => evaluate_case(bytes, frame),
         _ => Next::Broken,
     }

@@ -3,7 +3,8 @@ use Prim.Native.Nat.{ℕ, zero, suc, _*_}
 use mathlib.Core.List.{List}
 use mathlib.Core.Bool.{cond}
 use lib.Dec.{eqb}
-use Rattle.filter.specs.Record.{stepAt}
+use Rattle.filter.specs.Record.{stepAt, decodeAt}
+use Rattle.checks.specs.Check.{stepsBefore}
 use Rattle.filter.specs.declared.ast.LinkType.{LinkType}
 use Rattle.filter.specs.declared.ast.LinkType.the-variants.{Ethernet, RawIp}
 use Rattle.filter.specs.declared.ast.Proto as p
@@ -116,3 +117,7 @@ refusal link steps from (Len op value) = 0
 refusal link steps from Inbound = 16
 refusal link steps from Outbound = 16
 refusal link steps from (ByteAccess x) = accessRefusal steps from x
+
+-- of record k, whose steps come after those of the records before it
+unfoldable pub refusalAt : LinkType → List ℕ → List ℕ → ℕ → ℕ
+refusalAt link steps prims k = refusal link steps (stepsBefore prims k) (decodeAt prims (24 * k))

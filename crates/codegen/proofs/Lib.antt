@@ -1,2 +1,4 @@
 pub mod Sizes
 pub mod Pieces
+pub mod Leading
+pub mod Halves

@@ -1,5 +1,5 @@
 -- Pieces of code one after the other: the room for each, and what they come to together.
-use Prim.Native.Nat.{ℕ, suc, _+_, _^_, _<_}
+use Prim.Native.Nat.{ℕ, suc, _+_, _%_, _^_, _<_}
 use mathlib.Core.Path.{_≡_, refl, sym, ap, _∙_}
 use mathlib.Core.List.{List, [], _∷_, _++_}
 use native.Mathlib.Omega.{arith}
@@ -9,7 +9,9 @@ use Rattle.patches.specs.declared.Patches.{Patches}
 use Rattle.patches.specs.Code.{Slot, Emission, Room, em, push1, block}
 use Rattle.patches.specs.Code.Slot.{fixed, success, failure}
 use Rattle.patches.proofs.Blocks.{block-append, pos-of}
-use Rattle.codegen.specs.Fragments.{Fits}
+use Rattle.filter.specs.declared.ast.AccessSize.{AccessSize}
+use Rattle.filter.specs.declared.ast.AccessSize.the-variants.{Byte, Half, Word}
+use Rattle.codegen.specs.Fragments.{Fits, load, size-bytes, end-of, emit-load}
 
 -- The room for the first of two pieces, and for the second once the first is written.
 pub first : (xs ys : List Slot) (st : Patches) → Fits (xs ++ ys) st → Fits xs st
@@ -51,3 +53,19 @@ as-success i j e e1 h k = k ∙ ap (λ (x : Insn). push1 (success x) e) h
 
 pub as-failure : (i j : Insn) (e e1 : Emission) → i ≡ j → e1 ≡ push1 (failure i) e → e1 ≡ push1 (failure j) e
 as-failure i j e e1 h k = k ∙ ap (λ (x : Insn). push1 (failure x) e) h
+
+-- A load keeps 32 bits of its offset, so that a sum of offsets may wrap.
+pub load-wraps : (size : AccessSize) (n : ℕ) → emit-load size (n % 2 ^ 32) ≡ emit-load size n
+unfolding emit-load end-of size-bytes load
+load-wraps Byte n =
+    let end : (n % 2 ^ 32 + 1) % 2 ^ 32 ≡ (n + 1) % 2 ^ 32 = omega arith in
+    let low : n % 2 ^ 32 % 2 ^ 16 ≡ n % 2 ^ 16 = omega arith in
+    rw (end, low)
+load-wraps Half n =
+    let end : (n % 2 ^ 32 + 2) % 2 ^ 32 ≡ (n + 2) % 2 ^ 32 = omega arith in
+    let low : n % 2 ^ 32 % 2 ^ 16 ≡ n % 2 ^ 16 = omega arith in
+    rw (end, low)
+load-wraps Word n =
+    let end : (n % 2 ^ 32 + 4) % 2 ^ 32 ≡ (n + 4) % 2 ^ 32 = omega arith in
+    let low : n % 2 ^ 32 % 2 ^ 16 ≡ n % 2 ^ 16 = omega arith in
+    rw (end, low)

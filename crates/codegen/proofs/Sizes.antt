@@ -167,7 +167,7 @@ module _ (mode : ℕ) where
         enters false e r = covers (leb (16 * i + 16) prefix) refl (leb-false prefix (16 * i) e) r
 
   -- One side of an IPv6 net: the prefix acts as at most 128.
-  net6-side : (link : LinkType) (net : Ipv6Net) (at : ℕ) → length (check-net6 mode link (net .addr) (net .«prefix_len») at 8 0) ≡ count.net6Side net
+  pub net6-side : (link : LinkType) (net : Ipv6Net) (at : ℕ) → length (check-net6 mode link (net .addr) (net .«prefix_len») at 8 0) ≡ count.net6Side net
   unfolding count.net6Side count.clip
   net6-side link net at = sized (ltb (net .«prefix_len») 128) refl
     where
@@ -220,7 +220,7 @@ module _ (mode : ℕ) where
   unfolding emit-port
   port-length link port dir proto = simp (length-append, prereqs-length link proto, ports-length link port dir)
 
-  range-length : (link : LinkType) (off lo hi : ℕ) → length (check-range mode link off lo hi) ≡ 4
+  pub range-length : (link : LinkType) (off lo hi : ℕ) → length (check-range mode link off lo hi) ≡ 4
   unfolding check-range load fails
   range-length link off lo hi = refl
 
@@ -238,7 +238,7 @@ module _ (mode : ℕ) where
   mirrored-sides Dst n m = refl
   mirrored-sides SrcAndDst n m = refl
 
-  mac-length : (link : LinkType) (off addr : ℕ) → length (check-mac mode link off addr) ≡ 12
+  pub mac-length : (link : LinkType) (off addr : ℕ) → length (check-mac mode link off addr) ≡ 12
   unfolding check-mac check emit-load guard load fails
   mac-length link off addr = refl
 

@@ -1,6 +1,6 @@
 -- The pieces of code that primitives are made of, function by function of ebpf_codegen.rs: loads with guard, single checks, ethertype, dual-stack.
 -- A jump that the Rust resolves inside a primitive has its distance written here; one that it hands on is open.
-use Prim.Native.Nat.{ℕ, zero, suc, _+_, _-_, _*_, _/_, _%_, _^_, _<_}
+use Prim.Native.Nat.{ℕ, zero, suc, _+_, _-_, _*_, _/_, _%_, _^_, _<_, _≤_}
 use mathlib.Core.List.{List, [], _∷_, _++_}
 use mathlib.Core.Bool.{cond}
 use lib.ListN.{length}
@@ -45,6 +45,22 @@ settled k [] = []
 settled k (fixed i ∷ xs) = fixed i ∷ settled k xs
 settled k (success i ∷ xs) = success i ∷ settled k xs
 settled k (failure i ∷ xs) = fixed (with-off (past xs k) i) ∷ settled k xs
+
+-- One slot at place p: a failure leads to place end, or stays open where end is 0.
+unfoldable pub led : ℕ → ℕ → Slot → Slot
+led end p (fixed i) = fixed i
+led end p (success i) = success i
+led end p (failure i) = cond (eqb end 0) (failure i) (fixed (with-off (end - suc p) i))
+
+-- The slots from place p on.
+unfoldable pub lead : ℕ → ℕ → List Slot → List Slot
+lead end p [] = []
+lead end p (x ∷ xs) = led end p x ∷ lead end (suc p) xs
+
+-- There is room for a piece whose failures lead to place end, and 16 bits hold each distance.
+pub record Leads (end : ℕ) (xs : List Slot) (st : Patches) : Type 0 where
+  pub room : st .pos + length xs < 2 ^ 32
+  pub near : end ≤ st .pos + 65536
 
 -- `check(src); ja; resolve(src_fails, dst_start); check(dst)`: one of two checks, the first one's success jumping past the second.
 unfoldable pub one-of : List Slot → List Slot → List Slot

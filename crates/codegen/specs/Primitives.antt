@@ -60,6 +60,30 @@ unfoldable pub unwrap-or : EtherOffset → ℕ → ℕ
 unwrap-or (At off) fallback = off
 unwrap-or Nowhere fallback = fallback
 
+-- The chosen addresses, of which the source is 0 and the destination 1: the first one, and the number behind the last.
+unfoldable pub first-side : Dir → ℕ
+first-side SrcOrDst = 0
+first-side Src = 0
+first-side Dst = 1
+first-side SrcAndDst = 0
+
+unfoldable pub past-sides : Dir → ℕ
+past-sides SrcOrDst = 2
+past-sides Src = 1
+past-sides Dst = 2
+past-sides SrcAndDst = 2
+
+-- Where the failures of a side lead that begins at place p and has n instructions: behind its JA, or nowhere yet.
+unfoldable pub side-end : Dir → ℕ → ℕ → ℕ → ℕ
+side-end SrcOrDst side p n = cond (eqb side 0) (p + n + 1) 0
+side-end Src side p n = 0
+side-end Dst side p n = 0
+side-end SrcAndDst side p n = 0
+
+-- The JA behind a side whose failures lead to end.
+unfoldable pub over : ℕ → List Slot
+over end = cond (eqb end 0) [] (success (jump-always 0) ∷ [])
+
 module _ (mode : ℕ) (link : LinkType) where
   -- `check_addr4` and its like: one word under a mask (all ones: none), compared with k.
   module _ (masked : List Slot) (k : ℕ) where
@@ -161,7 +185,7 @@ module _ (mode : ℕ) (link : LinkType) where
 
   -- `emit_ether_host`: the first four bytes of an address, then the last two; the destination at 0 comes first.
   unfoldable pub check-mac : ℕ → ℕ → List Slot
-  check-mac off addr = check mode Word off (addr / 65536) ++ check mode Half (off + 4) (addr % 65536)
+  check-mac off addr = check mode Word off (addr / 65536 % 2 ^ 32) ++ check mode Half (off + 4) (addr % 65536)
 
   unfoldable pub emit-ether-host : ℕ → Dir → List Slot
   emit-ether-host addr dir = sides (mirrored dir) (check-mac 0 addr) (check-mac 6 addr)

@@ -1,5 +1,6 @@
 // Comparisons, the steps of a byte access, length and byte access.
 use crate::load::emit_load;
+use crate::load::emit_load_from;
 use crate::load::end_of;
 use crate::load::jeq;
 use crate::load::jge;
@@ -17,8 +18,12 @@ use ebpf::insn::R4;
 use ebpf::insn::R6;
 use filter::ast::AccessSize;
 use filter::ast::ArithOp;
+use filter::ast::ByteAccess;
 use filter::ast::CmpOp;
+use filter::ast::CmpRhs;
+use filter::ast::Layer;
 use filter::ast::LinkType;
+use filter::ast::net_offset;
 use filter::record::step_at;
 use patches::Patches;
 use patches::push;
@@ -26,9 +31,11 @@ use patches::push_failure;
 ghost use mathlib.Core.Path.{_≡_};
 ghost use Rattle.patches.specs.Code.{em, block};
 ghost use Prim.Native.Nat.{_+_, _*_};
+ghost use Rattle.filter.specs.Record.{stepAt};
+ghost use Rattle.filter.specs.declared.ast.Layer.the-variants.{Trans};
 ghost use Rattle.ebpf.specs.Insn.{alu32-imm};
 ghost use Rattle.codegen.specs.Fragments.{Fits, alu32-of, emit-steps, transport, emit-cmp};
-ghost use Rattle.codegen.specs.Primitives.{emit-len};
+ghost use Rattle.codegen.specs.Primitives.{emit-len, steps-and-cmp, access-at, emit-byte-access};
 
 // `emit_cmp`: a jump where the comparison fails; BitAnd jumps over one.
 pub(crate) fn emit_cmp(
@@ -103,4 +110,130 @@ pub(crate) fn emit_len(
     let a = push(out, work, st, Insn::mov64_reg(R4, R3));
     let b = push(out, work, a, Insn::sub64_reg(R4, R2));
     emit_cmp(out, work, b, mode, op, value)
+}
+
+// The instruction of the step k places after step `from`.
+fn step_insn(steps: &[u8], from: u32, k: u16) -> Insn
+    ensures { λ r. ⌜ r ≡ alu32-imm (alu32-of (stepAt (now (steps .entry)) (5 * (from + k)) .op)) 4 (stepAt (now (steps .entry)) (5 * (from + k)) .operand) ⌝ }
+{
+    let step = step_at(steps, from, k);
+    let op = step.op;
+    ebpf_alu32(op, step.operand)
+}
+
+// n steps of a byte access, from step `from` on.
+fn emit_steps(
+    out: &mut [u8],
+    work: &mut [u32],
+    st: Patches,
+    steps: &[u8],
+    n: u16,
+    from: u32,
+) -> Patches
+    requires { ⌜ Fits (emit-steps (now steps) n from) st ⌝ }
+    ensures { λ r. ⌜ em (now (out .exit)) (now (work .exit)) r ≡ block (emit-steps (now (steps .entry)) n from) (em (now (out .entry)) (now (work .entry)) st) ⌝ }
+{
+    let mut x = st;
+    let mut i = 0;
+    while i < n {
+        x = push(out, work, x, step_insn(steps, from, i));
+        i += 1;
+    }
+    x
+}
+
+// The steps, then the comparison.
+fn emit_steps_and_cmp(
+    out: &mut [u8],
+    work: &mut [u32],
+    st: Patches,
+    mode: u8,
+    link: LinkType,
+    steps: &[u8],
+    from: u32,
+    x: ByteAccess,
+    value: u32,
+) -> Patches
+    requires { ⌜ Fits (steps-and-cmp mode link (now steps) from x value) st ⌝ }
+    ensures { λ r. ⌜ em (now (out .exit)) (now (work .exit)) r ≡ block (steps-and-cmp mode link (now (steps .entry)) from x value) (em (now (out .entry)) (now (work .entry)) st) ⌝ }
+{
+    let op = x.op;
+    let a = emit_steps(out, work, st, steps, x.steps, from);
+    emit_cmp(out, work, a, mode, op, value)
+}
+
+// `emit_trans_byte_access`.
+fn emit_trans_byte_access(
+    out: &mut [u8],
+    work: &mut [u32],
+    st: Patches,
+    mode: u8,
+    link: LinkType,
+    steps: &[u8],
+    from: u32,
+    x: ByteAccess,
+    value: u32,
+) -> Patches
+    requires { ⌜ Fits (access-at mode link (now steps) from Trans x value) st ⌝ }
+    ensures { λ r. ⌜ em (now (out .exit)) (now (work .exit)) r ≡ block (access-at mode link (now (steps .entry)) from Trans x value) (em (now (out .entry)) (now (work .entry)) st) ⌝ }
+{
+    let size = x.size;
+    let offset = x.offset;
+    let a = emit_transport(out, work, st, net_offset(link));
+    let b = push_guard(out, work, a, R6, end_of(size, offset));
+    let c = push_load(out, work, b, size, R6, offset);
+    emit_steps_and_cmp(out, work, c, mode, link, steps, from, x, value)
+}
+
+// The load at the layer's place, then the steps and the comparison.
+fn emit_access_at(
+    out: &mut [u8],
+    work: &mut [u32],
+    st: Patches,
+    mode: u8,
+    link: LinkType,
+    steps: &[u8],
+    from: u32,
+    layer: Layer,
+    x: ByteAccess,
+    value: u32,
+) -> Patches
+    requires { ⌜ Fits (access-at mode link (now steps) from layer x value) st ⌝ }
+    ensures { λ r. ⌜ em (now (out .exit)) (now (work .exit)) r ≡ block (access-at mode link (now (steps .entry)) from layer x value) (em (now (out .entry)) (now (work .entry)) st) ⌝ }
+{
+    let size = x.size;
+    let offset = x.offset;
+    match layer {
+        Layer::Raw => {
+            let a = emit_load(out, work, st, size, offset);
+            emit_steps_and_cmp(out, work, a, mode, link, steps, from, x, value)
+        }
+        Layer::Net => {
+            let a = emit_load_from(out, work, st, size, net_offset(link), offset);
+            emit_steps_and_cmp(out, work, a, mode, link, steps, from, x, value)
+        }
+        Layer::Trans => emit_trans_byte_access(out, work, st, mode, link, steps, from, x, value),
+    }
+}
+
+// `emit_byte_access`; a comparison with a second load is refused before.
+pub(crate) fn emit_byte_access(
+    out: &mut [u8],
+    work: &mut [u32],
+    st: Patches,
+    mode: u8,
+    link: LinkType,
+    steps: &[u8],
+    from: u32,
+    x: ByteAccess,
+) -> Patches
+    requires { ⌜ Fits (emit-byte-access mode link (now steps) from x) st ⌝ }
+    ensures { λ r. ⌜ em (now (out .exit)) (now (work .exit)) r ≡ block (emit-byte-access mode link (now (steps .entry)) from x) (em (now (out .entry)) (now (work .entry)) st) ⌝ }
+{
+    let layer = x.layer;
+    let rhs = x.rhs;
+    match rhs {
+        CmpRhs::Const(k) => emit_access_at(out, work, st, mode, link, steps, from, layer, x, k),
+        CmpRhs::Load(_) => st,
+    }
 }

@@ -10,7 +10,7 @@ use patches::push;
 use patches::push_failure;
 ghost use mathlib.Core.Path.{_≡_};
 ghost use Rattle.patches.specs.Code.{em, block};
-ghost use Prim.Native.Nat.{_%_, _^_};
+ghost use Prim.Native.Nat.{_+_, _%_, _^_};
 ghost use Rattle.filter.specs.declared.ast.AccessSize.the-variants.{Byte, Half, Word};
 ghost use Rattle.ebpf.specs.Insn.{jump-imm};
 ghost use Rattle.ebpf.specs.Opcode.{JEQ, JNE, JGT, JGE, JLT, JLE, JSET};
@@ -199,4 +199,25 @@ pub(crate) fn check(
 {
     let a = emit_load(out, work, st, size, offset);
     push_failure(out, work, a, jne(mode, expected, 0))
+}
+
+// The number at an offset from a place in the frame; their sum is in 32 bits, as the Rust's.
+pub(crate) fn emit_load_from(
+    out: &mut [u8],
+    work: &mut [u32],
+    st: Patches,
+    size: AccessSize,
+    base: u32,
+    offset: u32,
+) -> Patches
+    requires { ⌜ Fits (emit-load size (base + offset)) st ⌝ }
+    ensures { λ r. ⌜ em (now (out .exit)) (now (work .exit)) r ≡ block (emit-load size (base + offset)) (em (now (out .entry)) (now (work .entry)) st) ⌝ }
+{
+    emit_load(
+        out,
+        work,
+        st,
+        size,
+        std::num::wrapping_add_u32(base, offset),
+    )
 }

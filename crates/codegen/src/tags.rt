@@ -3,6 +3,7 @@ use crate::ether::emit_ethertype;
 use crate::ether::net_plus;
 use crate::load::check;
 use crate::load::emit_load;
+use crate::load::emit_load_from;
 use crate::load::jeq;
 use crate::load::jne;
 use crate::load::jset;
@@ -200,4 +201,64 @@ pub(crate) fn emit_pppoe_session(
 {
     let a = emit_ethertype(out, work, st, mode, link, 0x8864);
     emit_session_id(out, work, a, mode, link, id)
+}
+
+// The label of the first entry, if one is asked.
+fn emit_mpls_label(
+    out: &mut [u8],
+    work: &mut [u32],
+    st: Patches,
+    mode: u8,
+    link: LinkType,
+    off: u32,
+    label: MaybeLabel,
+) -> Patches
+    requires { ⌜ Fits (mpls-label mode link off label) st ⌝ }
+    ensures { λ r. ⌜ em (now (out .exit)) (now (work .exit)) r ≡ block (mpls-label mode link off label) (em (now (out .entry)) (now (work .entry)) st) ⌝ }
+{
+    match label {
+        MaybeLabel::NoLabel => st,
+        MaybeLabel::SomeLabel(n) => {
+            let a = emit_load_from(out, work, st, AccessSize::Word, off, 2);
+            let b = push(out, work, a, Insn::rsh32_imm(R4, 12));
+            push_failure(out, work, b, jne(mode, n, 0))
+        }
+    }
+}
+
+// One of the two ethertypes at off, then the label.
+fn emit_mpls_at(
+    out: &mut [u8],
+    work: &mut [u32],
+    st: Patches,
+    mode: u8,
+    link: LinkType,
+    off: u32,
+    label: MaybeLabel,
+) -> Patches
+    requires { ⌜ Fits (mpls-at mode link (At off) label) st ⌝ }
+    ensures { λ r. ⌜ em (now (out .exit)) (now (work .exit)) r ≡ block (mpls-at mode link (At off) label) (em (now (out .entry)) (now (work .entry)) st) ⌝ }
+{
+    let a = emit_load(out, work, st, AccessSize::Half, off);
+    let b = push(out, work, a, jeq(mode, 0x8847, 1));
+    let c = push_failure(out, work, b, jne(mode, 0x8848, 0));
+    emit_mpls_label(out, work, c, mode, link, off, label)
+}
+
+// `emit_mpls`; a link without an ethertype is refused before.
+pub(crate) fn emit_mpls(
+    out: &mut [u8],
+    work: &mut [u32],
+    st: Patches,
+    mode: u8,
+    link: LinkType,
+    label: MaybeLabel,
+) -> Patches
+    requires { ⌜ Fits (emit-mpls mode link label) st ⌝ }
+    ensures { λ r. ⌜ em (now (out .exit)) (now (work .exit)) r ≡ block (emit-mpls mode link label) (em (now (out .entry)) (now (work .entry)) st) ⌝ }
+{
+    match ether_proto_offset(link) {
+        EtherOffset::At(off) => emit_mpls_at(out, work, st, mode, link, off, label),
+        EtherOffset::Nowhere => st,
+    }
 }

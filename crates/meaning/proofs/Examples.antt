@@ -13,10 +13,10 @@ use Rattle.filter.specs.Wrong.{qMost, fieldMost, optional, numberMost, plainMos
 use Rattle.tree.specs.Shape.{wanted, metBy, scan, shapeOf}
 use Rattle.tree.specs.Tree.{depth, holds, treesOf, treeOf}
 use Rattle.checks.specs.Check.{wrongIn, sheetWrong, lowestWrong, takes, stepsBefore, oneTree, complete, farOffset, shiftAt, checkAccesses, checkParts, checkSections, checkOf}
-use Rattle.checks.specs.Refusal.{refusal}
+use Rattle.checks.specs.Refusal.{refusal, refusalAt}
 use Rattle.meaning.specs.Frame.{there, number, passes}
 use Rattle.meaning.specs.Meaning.{directed, covered, halfMask, halfOf, given, l4, ethertype, ip, ip6, address4, host4, net4, halves, net6, start4, start6, portsAt, ports, means}
-use Rattle.meaning.specs.Evaluate.{primitiveHolds, expressionHolds, refusalAt, firstRefused, judge, evaluated, evaluateOf}
+use Rattle.meaning.specs.Evaluate.{primitiveHolds, expressionHolds, firstRefused, judge, evaluated, evaluateOf}
 use Rattle.filter.specs.declared.ast.LinkType.the-variants.{Ethernet, RawIp}
 use Rattle.filter.specs.declared.ast.Dir.the-variants.{SrcOrDst, Src}
 use Rattle.filter.specs.declared.ast.MaybeProto.the-variants.{NoProto}

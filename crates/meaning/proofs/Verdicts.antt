@@ -19,13 +19,13 @@ use Rattle.tree.specs.declared.Shape.the-variants.{Whole}
 use Rattle.tree.proofs.Exact.{flat-whole}
 use Rattle.tree.proofs.Prefix.{tree-flat}
 use Rattle.checks.specs.Check.{stepsBefore}
-use Rattle.checks.specs.Refusal.{refusal}
+use Rattle.checks.specs.Refusal.{refusal, refusalAt}
 use Rattle.meaning.specs.declared.evaluate.Verdict.{Verdict}
 use Rattle.meaning.specs.declared.evaluate.Verdict.the-variants.{Refused, Judged}
 use Rattle.meaning.specs.declared.walk.Spot.{Spot}
 use Rattle.meaning.specs.declared.walk.Eval.{Eval}
 use Rattle.meaning.specs.declared.walk.Eval.the-variants.{Done, TooDeep, Broken}
-use Rattle.meaning.specs.Evaluate.{primitiveHolds, expressionHolds, refusalAt, firstRefused, judge, evaluateOf}
+use Rattle.meaning.specs.Evaluate.{primitiveHolds, expressionHolds, firstRefused, judge, evaluateOf}
 use Rattle.meaning.specs.Walk.{evalAt, refusedOr}
 use Rattle.meaning.proofs.Walks.{at-most-or-above, Found, walk-tree, walk-too-deep}
 

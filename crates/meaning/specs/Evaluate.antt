@@ -9,7 +9,7 @@ use Rattle.filter.specs.Ast.{linkOf}
 use Rattle.filter.specs.Record.{decodeAt}
 use Rattle.filter.specs.Sheet.{stepsPart, primsPart, tokensPart}
 use Rattle.checks.specs.Check.{stepsBefore, checkOf}
-use Rattle.checks.specs.Refusal.{refusal}
+use Rattle.checks.specs.Refusal.{refusalAt}
 use Rattle.meaning.specs.Meaning.{means}
 use Rattle.filter.specs.declared.ast.LinkType.{LinkType}
 use Rattle.checks.specs.declared.check.Checked as checked
@@ -24,10 +24,6 @@ primitiveHolds link steps prims f k = means link f steps (stepsBefore prims k) (
 -- "passes the frame exactly when the expression holds": the tree of the tokens, its primitives in order.
 unfoldable pub expressionHolds : LinkType → List ℕ → List ℕ → List ℕ → List ℕ → Bool
 expressionHolds link steps prims tokens f = holds (primitiveHolds link steps prims f) (treeOf tokens) 0
-
--- Primitive k earns one of 11 to 19.
-unfoldable pub refusalAt : LinkType → List ℕ → List ℕ → ℕ → ℕ
-refusalAt link steps prims k = refusal link steps (stepsBefore prims k) (decodeAt prims (24 * k))
 
 -- "then 11 to 19 for the first primitive", of b of them.
 unfoldable pub firstRefused : LinkType → List ℕ → List ℕ → ℕ → ℕ

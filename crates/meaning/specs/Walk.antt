@@ -5,7 +5,8 @@ use mathlib.Core.Bool.{Bool, cond, not, _&&_, _||_}
 use lib.ListN.{length, getD}
 use lib.Dec.{eqb, ltb, leb}
 use Rattle.filter.specs.declared.ast.LinkType.{LinkType}
-use Rattle.meaning.specs.Evaluate.{refusalAt, firstRefused}
+use Rattle.checks.specs.Refusal.{refusalAt}
+use Rattle.meaning.specs.Evaluate.{firstRefused}
 use Rattle.meaning.specs.declared.evaluate.Verdict.{Verdict}
 use Rattle.meaning.specs.declared.evaluate.Verdict.the-variants.{Refused, Judged}
 use Rattle.meaning.specs.declared.walk.Spot.{Spot}

@@ -24,7 +24,8 @@ use Rattle.filter.proofs.Firsts.{first-lowest}
 use Rattle.checks.specs.Check.{stepsBefore, lowestWrong, oneTree, complete, farOffset, shiftAt, checkAccesses, checkParts, checkSections, checkOf}
 use Rattle.checks.specs.declared.check.Checked as checked
 use Rattle.checks.specs.declared.check.Checked.the-variants.{Refused, Good}
-use Rattle.meaning.specs.Evaluate.{refusalAt, firstRefused}
+use Rattle.checks.specs.Refusal.{refusalAt}
+use Rattle.meaning.specs.Evaluate.{firstRefused}
 use Rattle.checks.specs.Length.{programLength}
 use Rattle.sound.specs.Sheets.{Allowed}
 use Rattle.sound.proofs.Decoded.{be2-low}
@@ -53,7 +54,7 @@ none-below : (f : ℕ → Bool) (b : ℕ) → ltb (first f b 0) b ≡ false → 
 none-below f b e i l = let h = ltb-false (first f b 0) b e in first-lowest f b 0 i (omega arith) (omega arith)
 
 -- The tree of tokens that are one whole tree with b primitives.
-whole-tree : (tokens : List ℕ) (b : ℕ) → oneTree (shapeOf tokens) b ≡ true → (flat (treeOf tokens) ≡ tokens) × (leaves (treeOf tokens) ≡ b)
+pub whole-tree : (tokens : List ℕ) (b : ℕ) → oneTree (shapeOf tokens) b ≡ true → (flat (treeOf tokens) ≡ tokens) × (leaves (treeOf tokens) ≡ b)
 unfolding oneTree
 whole-tree tokens b e = go (shapeOf tokens) refl e
   where

@@ -4,7 +4,7 @@ use mathlib.Core.Path.{_≡_}
 use mathlib.Core.Bool.{Bool, false, cond}
 use mathlib.Core.List.{List}
 use lib.Dec.{ltb}
-use lib.ListN.{length, getD}
+use lib.ListN.{length, getD, take}
 use Rattle.ebpf.specs.Run.{runOf}
 use Rattle.filter.specs.Ast.{linkOf}
 use Rattle.filter.specs.Sheet.{stepsPart, primsPart, tokensPart}
@@ -14,8 +14,12 @@ use Rattle.checks.specs.declared.check.Checked.the-variants.{Good}
 use Rattle.meaning.specs.Evaluate.{expressionHolds, firstRefused}
 use Rattle.program.specs.Program.{codeOf}
 use Rattle.program.specs.Ends.{Exits, Frame}
+use Rattle.generator.specs.Compile.{outcomeOf, answerOf, outputAfter}
+use Rattle.generator.specs.declared.Compiled.the-variants.{Program}
+use Rattle.sound.specs.Demand.{Bytes, sheetHolds, SmallSheet}
 use Rattle.sound.specs.Trees.{program}
 use Rattle.sound.specs.Sheets.{sheetCode, Small, Near}
+use Rattle.sound.proofs.Accepted.{accepted}
 use Rattle.sound.proofs.Checked.{sheet-allowed, sheet-short, tokens-few}
 use Rattle.sound.proofs.ProgramLength.{sheet-length}
 use Rattle.sound.proofs.Sheets.{sheet-runs, sheet-exits}
@@ -42,3 +46,24 @@ module _ {frame : List ℕ} {start : ℕ} (w : Frame frame start) (mode link : �
       (runOf (codeOf (program (sheetCode mode (linkOf link) (stepsPart s a) (primsPart s a b) (tokensPart s a b c)))) frame start
       (programLength (linkOf link) (stepsPart s a) (primsPart s a b) (tokensPart s a b c) b c))
   compiled-exits = rw (← compiled-length) (sheet-exits w mode (sheet-allowed s link a b c byte good allowed) near (rw compiled-length (sheet-short s link a b c byte good)))
+
+-- THEOREM, demand 3, of `compile`: whatever the sheet, the link, the mode, the lent places, the frame and its start, an accepted program,
+-- run on the first 8 x L bytes of the output with budget L, stops 0 after at most L steps, and R0 is 2 exactly when the expression holds, else 1.
+module _ (s : List ℕ) (link mode work l : ℕ) (out : List ℕ) (byte : Bytes s) (compiles : answerOf (outcomeOf s link mode (length out) work) ≡ Program l)
+    {frame : List ℕ} {start : ℕ} (w : Frame frame start) where
+  -- In mended mode; in plain mode where every comparison constant is below 2^31.
+  pub passes-exactly : (mode ≡ 0 → SmallSheet s)
+      → Exits (cond (sheetHolds s link frame) 2 1) l (runOf (take (8 * l) (outputAfter (outcomeOf s link mode (length out) work) out)) frame start l)
+  unfolding sheetHolds
+  passes-exactly small =
+      let v = accepted s link mode work l out byte compiles in
+      let n = v .counts in
+      rw (v .written, n .0, n .1, n .2, v .length-is)
+      (compiled-runs w mode link s (v .a) (v .b) (v .c) byte (v .checked) (v .allowed) (v .near)
+      (λ i h m. rw (n .0, n .1) at (small m i (rw (n .1) h))))
+
+  -- In either mode and with any constants: it exits with 1 or 2, so nothing outside the frame and the two context words is read.
+  pub always-exits : (q : Bool) × Exits (cond q 2 1) l (runOf (take (8 * l) (outputAfter (outcomeOf s link mode (length out) work) out)) frame start l)
+  always-exits =
+      let v = accepted s link mode work l out byte compiles in
+      rw (v .written, v .length-is) (compiled-exits w mode link s (v .a) (v .b) (v .c) byte (v .checked) (v .allowed) (v .near))

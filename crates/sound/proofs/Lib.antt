@@ -15,12 +15,16 @@ pub mod Accesses
 pub mod Primitives
 pub mod Decided
 pub mod Trees
+pub mod PatchLists
 pub mod Fitting
 pub mod FittingPrimitives
 pub mod ProgramLength
+pub mod Emitted
+pub mod Listed
 pub mod ShortPrograms
 pub mod Decoded
 pub mod Checked
 pub mod Sheets
+pub mod Accepted
 pub mod Demand3
 pub mod Examples

@@ -16,20 +16,20 @@ use Rattle.filter.specs.Record.{decodeAt}
 use Rattle.filter.specs.declared.ast.LinkType.{LinkType}
 use Rattle.checks.specs.Check.{stepsBefore}
 use Rattle.checks.specs.Length.{countOf, sizeOf, sizeAt, sizesOf, programLength}
-use Rattle.meaning.specs.Evaluate.{refusalAt}
+use Rattle.checks.specs.Refusal.{refusalAt}
 use Rattle.sound.specs.Filled.{filled}
 use Rattle.sound.specs.Trees.{landed, swapped, both-of, none-of, treeCode, epilogue, program}
 use Rattle.sound.specs.Sheets.{primitiveCode, sheetCode, Allowed}
 use Rattle.codegen.proofs.Sizes.{settled-length, primitive-length}
 
-length-landed : (k : ℕ) (xs : List Slot) → length (landed k xs) ≡ length xs
+pub length-landed : (k : ℕ) (xs : List Slot) → length (landed k xs) ≡ length xs
 unfolding landed
 length-landed k [] = refl
 length-landed k (fixed i ∷ xs) = ap suc (length-landed k xs)
 length-landed k (success i ∷ xs) = ap suc (length-landed k xs)
 length-landed k (failure i ∷ xs) = ap suc (length-landed k xs)
 
-length-swapped : (xs : List Slot) → length (swapped xs) ≡ length xs
+pub length-swapped : (xs : List Slot) → length (swapped xs) ≡ length xs
 unfolding swapped
 length-swapped [] = refl
 length-swapped (fixed i ∷ xs) = ap suc (length-swapped xs)

@@ -9,7 +9,8 @@ use Rattle.tree.specs.Tree.{treeOf}
 use Rattle.filter.specs.Record.{decodeAt}
 use Rattle.filter.specs.declared.ast.LinkType.{LinkType}
 use Rattle.checks.specs.Check.{stepsBefore}
-use Rattle.meaning.specs.Evaluate.{primitiveHolds, expressionHolds, refusalAt}
+use Rattle.checks.specs.Refusal.{refusalAt}
+use Rattle.meaning.specs.Evaluate.{primitiveHolds, expressionHolds}
 use Rattle.program.specs.Program.{codeOf, Fits}
 use Rattle.program.specs.Ends.{Exits, Frame}
 use Rattle.program.proofs.Whole.{run-ends}

@@ -20,7 +20,7 @@ use Rattle.sound.specs.Trees.{landed, swapped, both-of, none-of, treeCod
 use Rattle.sound.proofs.Filled.{filled-then, on-past, off-always}
 use Rattle.sound.proofs.Pieces.{either}
 
-past-landed : (k : ℕ) (xs : List Slot) (b : ℕ) → past (landed k xs) b ≡ past xs b
+pub past-landed : (k : ℕ) (xs : List Slot) (b : ℕ) → past (landed k xs) b ≡ past xs b
 unfolding past landed
 past-landed k [] b = refl
 past-landed k (fixed i ∷ xs) b = ap suc (past-landed k xs b)

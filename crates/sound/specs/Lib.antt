@@ -7,3 +7,4 @@ pub mod Accessed
 pub mod Trees
 pub mod Fitting
 pub mod Sheets
+pub mod Demand

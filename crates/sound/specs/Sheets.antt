@@ -9,7 +9,7 @@ use Rattle.patches.specs.Code.{Slot}
 use Rattle.filter.specs.Record.{decodeAt}
 use Rattle.filter.specs.declared.ast.LinkType.{LinkType}
 use Rattle.checks.specs.Check.{stepsBefore, farOffset, shiftAt}
-use Rattle.meaning.specs.Evaluate.{refusalAt}
+use Rattle.checks.specs.Refusal.{refusalAt}
 use Rattle.meaning.specs.Constants.{smallConstants}
 use Rattle.codegen.specs.Primitives.{emit-primitive}
 use Rattle.sound.specs.Trees.{treeCode}

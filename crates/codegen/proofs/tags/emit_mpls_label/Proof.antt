@@ -1,0 +1,62 @@
+-- Nothing, or the label.
+use Rattle.patches.specs.Code.{block}
+use Rattle.codegen.specs.Fragments.{fails}
+use mathlib.Core.Path.{_∙_}
+use Rattle.codegen.proofs.Pieces.{first, second, head, tail, then, step, one}
+use borrow.Author.Needs.{needs}
+use Rattle.codegen.proofs.tags.emit_mpls_label.Statement.{statement}
+use Rattle.codegen.proofs.tags.emit_mpls_label.Tie as tie
+
+enum-told : tie.Need-enum-told
+enum-told c = search needs
+
+enum-known-label : tie.Need-enum-known-label
+enum-known-label c = search needs
+
+emit-load-from-requires : tie.Need-emit-load-from-requires
+unfolding fails
+emit-load-from-requires c κs = first _ _ _ (rw (c .before .before .before .label .given .1) at (c .before .before .before .before .before .before .before .pre))
+
+rsh32-imm-requires : tie.Need-rsh32-imm-requires
+rsh32-imm-requires c κs = search needs
+
+push-requires : tie.Need-push-requires
+unfolding fails
+push-requires c κs = head _ _ _ (second _ _ _ _ _ _ _ _ (rw (c .before .before .before .before .before .before .before .before .before .before .before .label .given .1) at (c .before .before .before .before .before .before .before .before .before .before .before .before .before .before .before .pre)) (c .before .before .before .before .before .before .before .emit-load-from .ensures))
+
+jne-requires : tie.Need-jne-requires
+jne-requires c κs = search needs
+
+push-failure-requires : tie.Need-push-failure-requires
+unfolding fails
+push-failure-requires c κs = head _ _ _ (tail _ _ _ _ _ _ _ _ (second _ _ _ _ _ _ _ _ (rw (c .before .before .before .before .before .before .before .before .before .before .before .before .before .before .before .before .before .before .before .label .given .1) at (c .before .before .before .before .before .before .before .before .before .before .before .before .before .before .before .before .before .before .before .before .before .before .before .pre)) (c .before .before .before .before .before .before .before .before .before .before .before .before .before .before .before .emit-load-from .ensures)) (rw (c .before .before .before .before .before .before .before .before .rsh32-imm .ensures) at (c .before .before .before .before .before .before .before .push .ensures)))
+
+returns : tie.Need-returns
+unfolding block
+returns c = rw (c .enum-told .given .1)
+
+same-length : tie.Need-same-length
+same-length c = c .before .before .before .before .push-failure .kept .0 ∙ c .before .before .before .before .before .before .before .before .before .before .before .before .push .kept .0 ∙ c .before .before .before .before .before .before .before .before .before .before .before .before .before .before .before .before .before .before .before .before .emit-load-from .kept .0
+
+same-length-2 : tie.Need-same-length-2
+same-length-2 c = c .before .before .before .before .push-failure .kept .1 .0 ∙ c .before .before .before .before .before .before .before .before .before .before .before .before .push .kept .1 .0 ∙ c .before .before .before .before .before .before .before .before .before .before .before .before .before .before .before .before .before .before .before .before .emit-load-from .kept .1 .0
+
+returns-2 : tie.Need-returns-2
+unfolding fails
+returns-2 c = rw (c .before .before .before .before .before .before .before .before .before .before .before .before .before .before .before .before .before .before .before .before .before .before .before .before .label .given .1) (then _ _ _ _ _ (c .before .before .before .before .before .before .before .before .before .before .before .before .before .before .before .before .before .before .before .before .emit-load-from .ensures) (step _ _ _ _ _ (rw (c .before .before .before .before .before .before .before .before .before .before .before .before .before .rsh32-imm .ensures) at (c .before .before .before .before .before .before .before .before .before .before .before .before .push .ensures)) (one _ _ _ (rw (c .before .before .before .before .before .jne .ensures) at (c .before .before .before .before .push-failure .ensures)))))
+
+pub emit-mpls-label-spec : {M : Type 1} → statement M
+emit-mpls-label-spec =
+    tie.close
+    (tie.spec
+    enum-told
+    enum-known-label
+    emit-load-from-requires
+    rsh32-imm-requires
+    push-requires
+    jne-requires
+    push-failure-requires
+    returns
+    same-length
+    same-length-2
+    returns-2)

@@ -1,0 +1,108 @@
+// Checks whose failing jumps lead to a place that is known beforehand: in `check(src); ja; check(dst)` the source's
+// failures lead to the destination's check. Where the place is 0 they stay open.
+use crate::load::end_of;
+use crate::load::jne;
+use crate::load::push_load;
+use ebpf::insn::Insn;
+use ebpf::insn::R2;
+use ebpf::insn::R3;
+use ebpf::insn::R5;
+use filter::ast::AccessSize;
+use patches::Patches;
+use patches::push;
+use patches::push_failure;
+ghost use mathlib.Core.Path.{_≡_};
+ghost use mathlib.Core.List.{[], _∷_};
+ghost use Prim.Native.Nat.{suc, _+_, _-_, _≤_};
+ghost use Rattle.patches.specs.Code.{em, push1, block};
+ghost use Rattle.patches.specs.Code.Slot.{failure};
+ghost use Rattle.codegen.specs.Fragments.{Leads, with-off, led, lead, guard, emit-load, check};
+
+// How far it is from behind place p to place end.
+fn distance(p: u32, end: u32) -> u16
+    requires { ⌜ end ≤ p + 65536 ⌝ }
+    ensures { λ r. ⌜ r ≡ end - suc p ⌝ }
+{
+    if end <= p { 0 } else { (end - p - 1) as u16 }
+}
+
+// The distance of a jump is set.
+fn with_off(i: Insn, off: u16) -> Insn
+    ensures { λ r. ⌜ r ≡ with-off off i ⌝ }
+{
+    Insn {
+        code: i.code,
+        regs: i.regs,
+        off,
+        imm: i.imm,
+    }
+}
+
+// A jump that leads to place end on failure, or one that is open.
+pub(crate) fn push_failing(
+    out: &mut [u8],
+    work: &mut [u32],
+    st: Patches,
+    i: Insn,
+    end: u32,
+) -> Patches
+    requires { ⌜ Leads end (failure i ∷ []) st ⌝ }
+    ensures { λ r. ⌜ em (now (out .exit)) (now (work .exit)) r ≡ push1 (led end (st .pos) (failure i)) (em (now (out .entry)) (now (work .entry)) st) ⌝ }
+{
+    if end == 0 {
+        push_failure(out, work, st, i)
+    } else {
+        push(out, work, st, with_off(i, distance(st.pos, end)))
+    }
+}
+
+// R5 = base + to, which must not lie past R3.
+fn push_guard_to(
+    out: &mut [u8],
+    work: &mut [u32],
+    st: Patches,
+    base: u8,
+    to: u32,
+    end: u32,
+) -> Patches
+    requires { ⌜ Leads end (guard base to) st ⌝ }
+    ensures { λ r. ⌜ em (now (out .exit)) (now (work .exit)) r ≡ block (lead end (st .pos) (guard base to)) (em (now (out .entry)) (now (work .entry)) st) ⌝ }
+{
+    let a = push(out, work, st, Insn::mov64_reg(R5, base));
+    let b = push(out, work, a, Insn::add64_imm(R5, to));
+    push_failing(out, work, b, Insn::jgt_reg(R5, R3, 0), end)
+}
+
+// `emit_load_byte`, `emit_load_half`, `emit_load_word`.
+pub(crate) fn emit_load_to(
+    out: &mut [u8],
+    work: &mut [u32],
+    st: Patches,
+    size: AccessSize,
+    offset: u32,
+    end: u32,
+) -> Patches
+    requires { ⌜ Leads end (emit-load size offset) st ⌝ }
+    ensures { λ r. ⌜ em (now (out .exit)) (now (work .exit)) r ≡ block (lead end (st .pos) (emit-load size offset)) (em (now (out .entry)) (now (work .entry)) st) ⌝ }
+{
+    let a = push_guard_to(out, work, st, R2, end_of(size, offset), end);
+    push_load(out, work, a, size, R2, offset)
+}
+
+// `check_byte`, `check_half`, `check_word`.
+pub(crate) fn check_to(
+    out: &mut [u8],
+    work: &mut [u32],
+    st: Patches,
+    mode: u8,
+    size: AccessSize,
+    offset: u32,
+    expected: u32,
+    end: u32,
+) -> Patches
+    requires { ⌜ Leads end (check mode size offset expected) st ⌝ }
+    ensures { λ r. ⌜ em (now (out .exit)) (now (work .exit)) r ≡ block (lead end (st .pos) (check mode size offset expected)) (em (now (out .entry)) (now (work .entry)) st) ⌝ }
+{
+    let a = emit_load_to(out, work, st, size, offset, end);
+    push_failing(out, work, a, jne(mode, expected, 0), end)
+}

@@ -1,0 +1,2 @@
+pub mod Template
+pub mod Compile

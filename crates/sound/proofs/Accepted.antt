@@ -2,7 +2,7 @@
 use Prim.Native.Nat.{ℕ, _+_, _*_, _≤_}
 use mathlib.Core.Path.{_≡_, refl, ap, _∙_}
 use mathlib.Core.Bool.{Bool, true, false, not, cond}
-use mathlib.Core.List.{List}
+use mathlib.Core.List.{List, _++_}
 use native.Mathlib.Omega.{arith}
 use borrow.Author.Tests.{eqb-true, eq-eqb, le-ltb}
 use lib.Dec.{eqb, ltb}
@@ -100,6 +100,10 @@ found-counts s a b c = go (eqb (length s) (5 * stepCount s + 24 * primCount s + 
     go true e = (cc, cc, cc)
     go false e = let never : _≡_ {A = ℕ} 0 1 = cc in absurd (omega arith)
 
+-- The first n of two lists, of which the first has n.
+front : (n : ℕ) (xs ys : List ℕ) → length xs ≡ n → take n (xs ++ ys) ≡ xs
+front n xs ys e = rw (← e) (take-append-seam xs ys)
+
 -- THEOREM: accepted, the first 8 x L bytes of the output are the program by the tree; no primitive is refused, no jump is too far.
 pub record Accepted (s : List ℕ) (link mode work l : ℕ) (out : List ℕ) : Type 0 where
   pub a : ℕ
@@ -146,5 +150,5 @@ accepted s link mode work l out byte e =
       room = v .bytes;
       allowed = allowed;
       near = record { inside = by-tree .1 .inside; to-accept = by-tree .1 .to-accept; to-drop = by-tree .1 .to-drop };
-      written = rw (m .whole, ← long) (take-append-seam (codeOf (m .is)) (drop (8 * l) out) ∙ ap codeOf (by-tree .0));
+      written = rw (m .whole) (front (8 * l) (codeOf (m .is)) (drop (8 * l) out) long ∙ ap codeOf (by-tree .0));
     }

@@ -1,13 +1,13 @@
 -- THEOREM, demand 3, from the sheet's bytes: what the program that `compile` makes does on the machine.
-use Prim.Native.Nat.{ℕ, _<_}
-use mathlib.Core.Path.{_≡_}
+use Prim.Native.Nat.{ℕ, _*_, _<_}
+use mathlib.Core.Path.{_≡_, refl}
 use mathlib.Core.Bool.{Bool, false, cond}
 use mathlib.Core.List.{List}
 use lib.Dec.{ltb}
 use lib.ListN.{length, getD, take}
 use Rattle.ebpf.specs.Run.{runOf}
 use Rattle.filter.specs.Ast.{linkOf}
-use Rattle.filter.specs.Sheet.{stepsPart, primsPart, tokensPart}
+use Rattle.filter.specs.Sheet.{stepCount, primCount, tokenCount, stepsPart, primsPart, tokensPart}
 use Rattle.checks.specs.Check.{checkOf}
 use Rattle.checks.specs.Length.{programLength}
 use Rattle.checks.specs.declared.check.Checked.the-variants.{Good}
@@ -47,6 +47,19 @@ module _ {frame : List ℕ} {start : ℕ} (w : Frame frame start) (mode link : �
       (programLength (linkOf link) (stepsPart s a) (primsPart s a b) (tokensPart s a b c) b c))
   compiled-exits = rw (← compiled-length) (sheet-exits w mode (sheet-allowed s link a b c byte good allowed) near (rw compiled-length (sheet-short s link a b c byte good)))
 
+-- The same program and the same budget, written otherwise.
+same-run : (frame : List ℕ) (start : ℕ) {v : ℕ} (p q : List ℕ) (l m : ℕ) → p ≡ q → l ≡ m → Exits v m (runOf q frame start m) → Exits v l (runOf p frame start l)
+same-run frame start p q l m e f h = rw (e, f) h
+
+-- The expression by the counts that the check gave.
+same-counts : (s : List ℕ) (link a b c : ℕ) (frame : List ℕ) → (stepCount s ≡ a) × (primCount s ≡ b) × (tokenCount s ≡ c)
+    → sheetHolds s link frame ≡ expressionHolds (linkOf link) (stepsPart s a) (primsPart s a b) (tokensPart s a b c) frame
+unfolding sheetHolds
+same-counts s link a b c frame (e, f, g) = rw (e, f, g) refl
+
+same-small : (mode : ℕ) (s : List ℕ) (a b : ℕ) → stepCount s ≡ a → primCount s ≡ b → (mode ≡ 0 → SmallSheet s) → Small mode (primsPart s a b) b
+same-small mode s a b e f small i h m = rw (← e, ← f) (small m i (rw f h))
+
 -- THEOREM, demand 3, of `compile`: whatever the sheet, the link, the mode, the lent places, the frame and its start, an accepted program,
 -- run on the first 8 x L bytes of the output with budget L, stops 0 after at most L steps, and R0 is 2 exactly when the expression holds, else 1.
 module _ (s : List ℕ) (link mode work l : ℕ) (out : List ℕ) (byte : Bytes s) (compiles : answerOf (outcomeOf s link mode (length out) work) ≡ Program l)
@@ -54,16 +67,16 @@ module _ (s : List ℕ) (link mode work l : ℕ) (out : List ℕ) (byte : Bytes 
   -- In mended mode; in plain mode where every comparison constant is below 2^31.
   pub passes-exactly : (mode ≡ 0 → SmallSheet s)
       → Exits (cond (sheetHolds s link frame) 2 1) l (runOf (take (8 * l) (outputAfter (outcomeOf s link mode (length out) work) out)) frame start l)
-  unfolding sheetHolds
   passes-exactly small =
       let v = accepted s link mode work l out byte compiles in
       let n = v .counts in
-      rw (v .written, n .0, n .1, n .2, v .length-is)
-      (compiled-runs w mode link s (v .a) (v .b) (v .c) byte (v .checked) (v .allowed) (v .near)
-      (λ i h m. rw (n .0, n .1) at (small m i (rw (n .1) h))))
+      rw (same-counts s link (v .a) (v .b) (v .c) frame n)
+      (same-run frame start _ _ l _ (v .written) (v .length-is)
+      (compiled-runs w mode link s (v .a) (v .b) (v .c) byte (v .checked) (v .allowed) (v .near) (same-small mode s (v .a) (v .b) (n .0) (n .1) small)))
 
   -- In either mode and with any constants: it exits with 1 or 2, so nothing outside the frame and the two context words is read.
   pub always-exits : (q : Bool) × Exits (cond q 2 1) l (runOf (take (8 * l) (outputAfter (outcomeOf s link mode (length out) work) out)) frame start l)
   always-exits =
       let v = accepted s link mode work l out byte compiles in
-      rw (v .written, v .length-is) (compiled-exits w mode link s (v .a) (v .b) (v .c) byte (v .checked) (v .allowed) (v .near))
+      let x = compiled-exits w mode link s (v .a) (v .b) (v .c) byte (v .checked) (v .allowed) (v .near) in
+      (x .0, same-run frame start _ _ l _ (v .written) (v .length-is) (x .1))

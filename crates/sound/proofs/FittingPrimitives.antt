@@ -47,7 +47,6 @@ use Rattle.meaning.specs.Meaning.{halfOf}
 use Rattle.sound.specs.Fine.{FineProto, FineId, FineLabel, FineRhs, Fine}
 use Rattle.sound.specs.Fitting.{FitSlots, no-slots}
 use Rattle.sound.proofs.Filled.{past-append}
-use Rattle.sound.proofs.Loads.{same-size, at-most-four}
 use Rattle.sound.proofs.Ethertypes.{net-low}
 use Rattle.sound.proofs.Nets6.{half-low, mask-low}
 use Rattle.sound.proofs.Accesses.{operand-low, near-offset}
@@ -284,10 +283,10 @@ module _ (mode : ℕ) where
     unfolding check-range load fails past
     range-short off lo hi = omega arith
 
-    mac-fits : (off addr : ℕ) → off < 2 ^ 14 → addr < 2 ^ 48 → FitSlots (check-mac mode link off addr)
+    mac-fits : (off addr : ℕ) → off < 2 ^ 14 → FitSlots (check-mac mode link off addr)
     unfolding check-mac
-    mac-fits off addr m l =
-        append-fits (check-fits Word off (addr / 65536) (omega arith) (omega arith)) (check-fits Half (off + 4) (addr % 65536) (omega arith) (omega arith))
+    mac-fits off addr m =
+        append-fits (check-fits Word off (addr / 65536 % 2 ^ 32) (omega arith) (omega arith)) (check-fits Half (off + 4) (addr % 65536) (omega arith) (omega arith))
 
     mac-short : (off addr : ℕ) → past (check-mac mode link off addr) 1 < 2 ^ 15
     unfolding check-mac check emit-load guard load fails past
@@ -372,7 +371,7 @@ module _ (mode : ℕ) where
       primitive-fits (Net6 net dir) f = net6-fits link (net .addr) (net .«prefix_len») dir
       primitive-fits (Proto x) f = proto-fits link x f
       primitive-fits (EtherHost addr dir) f =
-          sides-fit link (mirrored dir) (mac-short link 0 addr) (mac-fits link 0 addr (omega arith) f) (mac-fits link 6 addr (omega arith) f)
+          sides-fit link (mirrored dir) (mac-short link 0 addr) (mac-fits link 0 addr (omega arith)) (mac-fits link 6 addr (omega arith))
       primitive-fits (EtherProto et) f = ethertype-fits link et f
       primitive-fits EtherMulticast f =
           append-fits (emit-load-fits Byte 0 (omega arith)) (skips-fits _ 1 1 (omega arith) (omega arith) (failure-fits _ _ _ _ _ (omega arith) no-slots))

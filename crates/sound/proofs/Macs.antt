@@ -6,7 +6,7 @@ use mathlib.Core.List.{List}
 use native.Mathlib.Omega.{arith}
 use native.Mathlib.Nat.{add-zero, add-assoc}
 use borrow.Author.Tests.{leb-true, leb-false, le-leb, lt-leb, eqb-true, eqb-false, eq-eqb, ne-eqb}
-use lib.Dec.{eqb, leb}
+use lib.Dec.{eqb, leb, ltb}
 use lib.ListN.{length}
 use Rattle.codegen.specs.Primitives.{mirrored, check-mac, emit-ether-host}
 use Rattle.filter.specs.declared.ast.LinkType.{LinkType}
@@ -22,7 +22,7 @@ use Rattle.sound.specs.Reads.{Reads}
 use Rattle.sound.proofs.Bools.{and-false}
 use Rattle.sound.proofs.Pieces.{both, decides, by-direction}
 use Rattle.sound.proofs.Loads.{number2-low}
-use Rattle.sound.proofs.Compares.{takes-always, reads-equal}
+use Rattle.sound.proofs.Compares.{takes-small, takes-always, reads-equal}
 use Rattle.sound.proofs.Fields.{checks}
 
 -- A direction seen from the other end.
@@ -52,6 +52,14 @@ six-bytes : (frame : List ℕ) (off : ℕ) → number frame 6 off ≡ number fra
 unfolding number
 six-bytes frame off = rw (add-zero (off + 4), add-assoc off 4 1) (omega arith)
 
+-- The first four bytes of a number of six.
+first-four : (addr : ℕ) → addr < 2 ^ 48 → addr / 65536 % 2 ^ 32 ≡ addr / 65536
+first-four addr l = omega arith
+
+pub first-four-read : (mode addr : ℕ) → addr < 2 ^ 48 → (mode ≡ 0 → ltb (addr / 65536) (2 ^ 31) ≡ true)
+    → Reads mode Eq (addr / 65536 % 2 ^ 32) (eqb (addr / 65536))
+first-four-read mode addr l s = rw (first-four addr l) (reads-equal (takes-small mode (addr / 65536) s))
+
 module _ {frame : List ℕ} {start : ℕ} (w : Frame frame start) where
   -- Four bytes and the two after them are the six.
   six-pass : (off addr : ℕ)
@@ -70,7 +78,7 @@ module _ {frame : List ℕ} {start : ℕ} (w : Frame frame start) where
           let l = leb-false (off + 6) (length frame) e in
           rw (lt-leb (off + 4 + 2) (length frame) (omega arith)) (and-false (leb (off + 4) (length frame) && eqb (addr / 65536) (number frame 4 off)))
 
-  module _ {mode : ℕ} {test : ℕ → Bool} (link : LinkType) (addr : ℕ) (r : Reads mode Eq (addr / 65536) test) where
+  module _ {mode : ℕ} {test : ℕ → Bool} (link : LinkType) (addr : ℕ) (r : Reads mode Eq (addr / 65536 % 2 ^ 32) test) where
     mac-means : (off : ℕ) → off < 2 ^ 14
         → Tests frame start (check-mac mode link off addr) (passes frame 4 off test && passes frame 2 (off + 4) (eqb (addr % 65536)))
     unfolding check-mac bytesOf

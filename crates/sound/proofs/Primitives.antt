@@ -1,5 +1,5 @@
 -- THEOREM: the code of every primitive that is not refused means what document 01 says of it.
-use Prim.Native.Nat.{ℕ, _/_, _^_, _<_}
+use Prim.Native.Nat.{ℕ, _^_, _<_}
 use mathlib.Core.Path.{_≡_, refl}
 use mathlib.Core.Bool.{true}
 use mathlib.Core.List.{List}
@@ -35,7 +35,7 @@ use Rattle.sound.proofs.Compares.{takes-small, reads, reads-equal}
 use Rattle.sound.proofs.Ethertypes.{ethertype-means, is-ip, ip4-means, ip6-means, dual-means}
 use Rattle.sound.proofs.Addresses.{host-means, net-means}
 use Rattle.sound.proofs.Nets6.{net6-means}
-use Rattle.sound.proofs.Macs.{ether-host-means, ether-host-exact}
+use Rattle.sound.proofs.Macs.{first-four-read, ether-host-means, ether-host-exact}
 use Rattle.sound.proofs.Tags.{ether-multicast-means, broadcast-means, multicast-means, multicast-exact, ip6-multicast-means}
 use Rattle.sound.proofs.Tags.{vlan-means, pppoe-means, mpls-means, mpls-label-means, len-means}
 use Rattle.sound.proofs.Ports.{port-tests, range-tests}
@@ -106,7 +106,7 @@ module _ {frame : List ℕ} {start : ℕ} (w : Frame frame start) (mode : ℕ) (
   primitive-means (Net6 net dir) f e s = net6-means w mode link (net .addr) (net .«prefix_len») dir e
   primitive-means (Proto x) f e s = lands (proto-means w mode link x f e)
   primitive-means (EtherHost addr dir) f e s =
-      decides (ether-host-means w link addr (reads-equal (takes-small mode (addr / 65536) s)) dir) (ether-host-exact w link dir addr)
+      decides (ether-host-means w link addr (first-four-read mode addr f s) dir) (ether-host-exact w link dir addr)
   primitive-means (EtherProto et) f e s = lands (ethertype-means w mode link et f e)
   primitive-means EtherMulticast f e s = lands (ether-multicast-means w mode link)
   primitive-means IpBroadcast f e s = lands (broadcast-means w link (reads-equal (takes-small mode 0xffffffff s)))

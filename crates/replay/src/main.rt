@@ -4,6 +4,8 @@
 //   S link(1) mode(1) sheet-length(4) sheet: the refusal and its place, or 0, the sheet's three counts and L.
 //   A output(8) work(8) link(1) mode(1) sheet-length(4) sheet: the same, with refusals 7 and 8 for lent places of these sizes.
 //   E link(1) sheet-length(4) sheet frame-length(4) frame: the refusal and its place, or 0 and whether the expression holds.
+//   C link(1) mode(1) output-bytes(4) work-numbers(4) sheet-length(4) sheet: the listing program's lines, for lent places of
+//     these sizes; output to 1 MiB, work to 1 Mi numbers.
 // A case that is cut, has another tag or is longer than its buffers ends the run with a line that says which case it is.
 use checks::check::Checked;
 use checks::check::check_sheet_mode;
@@ -15,6 +17,7 @@ use libc::STDIN_FILENO;
 use libc::STDOUT_FILENO;
 use meaning::evaluate::Verdict;
 use meaning::evaluate::evaluate;
+use report::report;
 ghost use Prim.Native.Nat.{_<_, _^_};
 ghost use lib.ListN.{length};
 ghost use Rattle.replay.specs.Part.{Within};
@@ -209,7 +212,39 @@ fn evaluate_case(sheet: &mut [u8], frame: &mut [u8]) -> Next {
     Next::More
 }
 
-fn next_case(bytes: &mut [u8], frame: &mut [u8]) -> Next {
+fn compile_case(sheet: &mut [u8], output: &mut [u8], work: &mut [u32]) -> Next {
+    let mut head = [0u8; 2];
+    if io::read_full(STDIN_FILENO, &mut head) < 2 {
+        return Next::Broken;
+    }
+    let Number::Value(o) = read4() else {
+        return Next::Broken;
+    };
+    let Number::Value(w) = read4() else {
+        return Next::Broken;
+    };
+    let Part::Bytes(n) = read_part(sheet) else {
+        return Next::Broken;
+    };
+    let bytes = o as usize;
+    let numbers = w as usize;
+    if output.len() < bytes {
+        return Next::Broken;
+    }
+    if work.len() < numbers {
+        return Next::Broken;
+    }
+    report(
+        &sheet[..n],
+        head[0],
+        head[1],
+        &mut output[..bytes],
+        &mut work[..numbers],
+    );
+    Next::More
+}
+
+fn next_case(bytes: &mut [u8], frame: &mut [u8], output: &mut [u8], work: &mut [u32]) -> Next {
     let mut tag = [0u8; 1];
     if io::read_full(STDIN_FILENO, &mut tag) < 1 {
         return Next::End;
@@ -220,17 +255,24 @@ fn next_case(bytes: &mut [u8], frame: &mut [u8]) -> Next {
         b'S' => sheet_case(bytes),
         b'A' => admit_case(bytes),
         b'E' => evaluate_case(bytes, frame),
+        b'C' => compile_case(bytes, output, work),
         _ => Next::Broken,
     }
 }
 
 // The cases up to the input's end, numbered from 1.
-fn replay(bytes: &mut [u8], frame: &mut [u8]) {
+fn replay(bytes: &mut [u8], frame: &mut [u8], output: &mut [u8], work: &mut [u32]) {
     let mut case: u64 = 1;
     while case < 0x1_0000_0000 {
-        match next_case(bytes, frame) {
+        match next_case(bytes, frame, output, work) {
             Next::More => {}
             Next::End => {
+                if case == 1 {
+                    io::write_all(
+                        STDOUT_FILENO,
+                        b"usage: replay < CASES (tests/ says how they are made)\n",
+                    );
+                }
                 return;
             }
             Next::Broken => {
@@ -246,5 +288,7 @@ fn replay(bytes: &mut [u8], frame: &mut [u8]) {
 fn main() {
     let mut bytes = [0u8; 524288];
     let mut frame = [0u8; 65536];
-    replay(&mut bytes, &mut frame);
+    let mut output = [0u8; 1048576];
+    let mut work = [0u32; 1048576];
+    replay(&mut bytes, &mut frame, &mut output, &mut work);
 }

@@ -16,7 +16,8 @@ sys.dont_write_bytecode = True
 import cases
 
 libc = ctypes.CDLL(None, use_errno=True)
-PROG_LOAD, TEST_RUN, XDP, SYS_BPF = 5, 10, 6, 321
+PROG_LOAD, TEST_RUN, XDP = 5, 10, 6
+SYS_BPF = {'x86_64': 321, 'aarch64': 280}[os.uname().machine]
 LICENSE = ctypes.create_string_buffer(b'GPL')
 LOG = ctypes.create_string_buffer(1 << 20)
 

@@ -1,7 +1,7 @@
 #!/usr/bin/env python3
 """Runs the cases that end with exit in the Linux kernel (bpf(2), XDP test run) and compares R0.
 
-Needs root and an x86-64 kernel with the bpf() system call. A case is comparable when it has the
+Needs root and a kernel with the bpf() system call, x86-64 or aarch64. A case is comparable when it has the
 same answer at any start (the kernel chooses its own) and a frame of 14 bytes or more, or no use
 for the frame. The kernel returns 32 bits, so each program runs twice: as it is, and with each exit
 turned into a jump to an end that shifts R0 right by 32.
@@ -101,4 +101,6 @@ def main():
 
 
 if __name__ == '__main__':
+    if len(sys.argv) != 2:
+        sys.exit('usage: linux.py FOLDER   (the folder that cases.py wrote)')
     main()

@@ -104,18 +104,6 @@ def mode():
     return turn % 2
 
 
-def both(x, y):
-    return ('and', x, y)
-
-
-def either(x, y):
-    return ('or', x, y)
-
-
-def no(x):
-    return ('not', x)
-
-
 def chain_of(items, join, left_deep=True):
     tree = items[0]
     for x in items[1:]:

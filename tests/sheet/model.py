@@ -706,3 +706,16 @@ def write(tree):
             tokens.append({'and': AND, 'or': OR, 'not': NOT}[node[0]])
             to_come += reversed(node[1:])
     return raw_sheet(steps, primitives, tokens)
+
+
+# Trees over tests.
+def both(x, y):
+    return ('and', x, y)
+
+
+def either(x, y):
+    return ('or', x, y)
+
+
+def no(x):
+    return ('not', x)

@@ -141,18 +141,6 @@ def put(sheet, at, new):
     return sheet[:at] + new + sheet[at + len(new):]
 
 
-def both(x, y):
-    return ('and', x, y)
-
-
-def either(x, y):
-    return ('or', x, y)
-
-
-def no(x):
-    return ('not', x)
-
-
 def every_test():
     """Each kind with each direction, protocol, comparison, layer and size."""
     for d in DIRECTIONS:

@@ -1,8 +1,9 @@
 -- Document 01's K1 and K2 computed from the sheet's bytes to the program's.
 use Prim.Native.Nat.{ℕ}
-use mathlib.Core.Path.{_≡_, refl}
+use mathlib.Core.Path.{_≡_, refl, sym, ap, _∙_}
 use mathlib.Core.List.{List, [], _∷_, _++_}
-use lib.ListN.{drop, replicate}
+use native.Mathlib.Omega.{arith}
+use lib.ListN.{getD, drop, replicate}
 use Rattle.ebpf.specs.Insn.{new, to-le-bytes}
 use Rattle.ebpf.proofs.Examples.{k2-insns, k2}
 use Rattle.program.specs.Program.{codeOf}
@@ -29,7 +30,7 @@ use Rattle.patches.specs.Whole.{prologue, epilogue}
 use Rattle.generator.specs.Template.{templateOf, template}
 use Rattle.generator.specs.Compile.{outcome, outcomeOf, answerOf, outputAfter}
 use Rattle.generator.specs.Compile.Outcome.{early, late}
-use Rattle.generator.specs.declared.Compiled.the-variants.{Program}
+use Rattle.generator.specs.declared.Compiled.the-variants.{Refused, Program}
 
 -- `ip`: no steps, one primitive (kind 7, Proto, p 1), one token.
 abbrev ip-sheet : List ℕ
@@ -48,3 +49,23 @@ unfolding
     protoRefusal template templateOf emit-primitive emit-proto emit-ethertype etherProtoOffset netOffset check emit-load guard load size-bytes end-of fails class-of treeOf treesOf
     compileL emitL listed prologue epilogue endedL resolvedL setOff reach successes failures new codeOf to-le-bytes
 worked = (refl, refl, (λ out. refl), refl, refl)
+
+-- "a generator that refuses everything" meets no contract: `ip` on RawIp has a program.
+pub refuses-everything : (number place : ℕ) → answerOf (outcomeOf ip-sheet 1 0 48 14) ≡ Refused number place → ⊥
+refuses-everything number place e = let k = worked .0 in let never : _≡_ {A = ℕ} 0 1 = cc in omega arith
+
+-- "one fixed program": the two links ask for programs of 6 and of 12 instructions.
+pub one-program : (l : ℕ) → answerOf (outcomeOf ip-sheet 1 0 48 14) ≡ Program l → answerOf (outcomeOf ip-sheet 0 0 96 20) ≡ Program l → ⊥
+unfolding answerOf
+one-program l e f =
+    let k = worked .0 in
+    let twelve : answerOf (outcomeOf ip-sheet 0 0 96 20) ≡ Program 12 = ap answerOf (worked .1) in
+    let short : _≡_ {A = ℕ} 6 l = cc in
+    let long : _≡_ {A = ℕ} 12 l = cc in
+    omega arith
+
+-- "an untouched output": 96 zeros do not stay.
+pub untouched : outputAfter (outcomeOf ip-sheet 0 0 96 20) (replicate 96 0) ≡ replicate 96 0 → ⊥
+untouched e =
+    let first : _≡_ {A = ℕ} 0x61 0 = ap (λ (o : List ℕ). getD o 0 0) (sym (worked .2 (replicate 96 0)) ∙ e) in
+    omega arith

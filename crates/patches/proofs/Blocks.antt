@@ -1,11 +1,10 @@
 -- Runs of instructions: what they do to a reading, to the bytes, to the next place; runs after one another; room.
 use Prim.Native.Nat.{ℕ, suc, _+_, _≤_}
-use mathlib.Core.Path.{_≡_, refl, sym, ap, _∙_}
+use mathlib.Core.Path.{_≡_, refl, ap, _∙_}
 use mathlib.Core.List.{List, [], _∷_, _++_}
 use native.Mathlib.Omega.{arith}
 use lib.ListN.{length}
-use Rattle.patches.specs.declared.Patches.{Patches}
-use Rattle.patches.specs.Code.{Slot, Emission, Room, em, push1, block, outs, successes, failures}
+use Rattle.patches.specs.Code.{Slot, Emission, push1, block, outs, successes, failures}
 use Rattle.patches.specs.Code.Slot.{fixed, success, failure}
 use Rattle.patches.specs.Rel.{Frame, Rel}
 use Rattle.patches.proofs.Reading.{rel-fixed, rel-success, rel-failure}
@@ -44,20 +43,5 @@ unfolding block
 block-append [] ys e = refl
 block-append (x ∷ xs) ys e = block-append xs ys (push1 x e)
 
-pub one : (x : Slot) (e e1 : Emission) → e1 ≡ push1 x e → e1 ≡ block (x ∷ []) e
-unfolding block
-one x e e1 h = h
-
-pub then : (xs ys : List Slot) (e e1 e2 : Emission) → e1 ≡ block xs e → e2 ≡ block ys e1 → e2 ≡ block (xs ++ ys) e
-then xs ys e e1 e2 h k = k ∙ ap (block ys) h ∙ sym (block-append xs ys e)
-
 pub pos-of : (xs : List Slot) (e e1 : Emission) → e1 ≡ block xs e → e1 .patches .pos ≡ e .patches .pos + length xs
 pos-of xs e e1 h = ap (λ (v : Emission). v .patches .pos) h ∙ pos-block xs e
-
--- The room that a run leaves.
-pub room-on : (m n k : ℕ) (xs : List Slot) (o w : List ℕ) (st : Patches) (o1 w1 : List ℕ) (st1 : Patches) → Room n st → length xs ≡ m → m + k ≤ n
-    → em o1 w1 st1 ≡ block xs (em o w st) → Room k st1
-room-on m n k xs o w st o1 w1 st1 r l h e = omega (arith, r, pos-of xs (em o w st) (em o1 w1 st1) e, l)
-
-pub room-less : (n m : ℕ) (st : Patches) → m ≤ n → Room n st → Room m st
-room-less n m st h r = omega (arith, r)

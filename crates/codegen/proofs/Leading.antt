@@ -10,12 +10,12 @@ use lib.Dec.{eqb}
 use Rattle.ebpf.specs.Insn.{jump-always}
 use Rattle.ebpf.specs.declared.insn.Insn.{Insn}
 use Rattle.patches.specs.declared.Patches.{Patches}
-use Rattle.patches.specs.Code.{Slot, Emission, Room, em, push1, block}
+use Rattle.patches.specs.Code.{Slot, Emission, Room, with-off, em, push1, block}
 use Rattle.patches.specs.Code.Slot.{fixed, success, failure}
 use Rattle.patches.proofs.Blocks.{pos-of}
 use Rattle.filter.specs.declared.ast.AccessSize.{AccessSize}
 use Rattle.filter.specs.declared.ast.AccessSize.the-variants.{Byte, Half, Word}
-use Rattle.codegen.specs.Fragments.{Fits, Leads, with-off, past, settled, led, lead, one-of, load}
+use Rattle.codegen.specs.Fragments.{Fits, Leads, past, settled, led, lead, one-of, load}
 use Rattle.codegen.proofs.Pieces.{then, step}
 use Rattle.codegen.proofs.Sizes.{settled-length}
 

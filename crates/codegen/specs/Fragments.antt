@@ -9,7 +9,7 @@ use lib.Bits.{bitAnd}
 use Rattle.ebpf.specs.Opcode.{ADD, SUB, MUL, DIV, OR, AND, LSH, RSH, XOR, MOV, JMP, JMP32, JEQ, JNE, JGT, JGE, JLT, JLE, JSET, WORD, HALF, BYTE}
 use Rattle.ebpf.specs.Insn.{alu64-reg, alu64-imm, alu32-imm, to-be, ldx, jump-imm, jump-reg, jump-always}
 use Rattle.ebpf.specs.declared.insn.Insn.{Insn}
-use Rattle.patches.specs.Code.{Slot}
+use Rattle.patches.specs.Code.{Slot, with-off}
 use Rattle.patches.specs.declared.Patches.{Patches}
 use Rattle.patches.specs.Code.Slot.{fixed, success, failure}
 use Rattle.filter.specs.Ast.{etherProtoOffset, netOffset}
@@ -29,10 +29,6 @@ use Rattle.filter.specs.declared.ast.CmpOp.the-variants.{Eq, Ne, Lt, Le, Gt, Ge
 -- There is room for a piece: the next place stays a 32-bit number.
 pub record Fits (xs : List Slot) (st : Patches) : Type 0 where
   pub room : st .pos + length xs < 2 ^ 32
-
--- The distance of a jump is set.
-unfoldable pub with-off : ℕ → Insn → Insn
-with-off d i = record { code = i .code; regs = i .regs; off = d; imm = i .imm }
 
 -- How far it is from the front of a piece to k instructions past its end.
 unfoldable pub past : List Slot → ℕ → ℕ

@@ -1,6 +1,6 @@
 // Comparisons, the steps of a byte access, length and byte access.
-use crate::load::emit_load;
-use crate::load::emit_load_from;
+use crate::guarded::emit_load;
+use crate::guarded::emit_load_from;
 use crate::load::end_of;
 use crate::load::jeq;
 use crate::load::jge;
@@ -9,7 +9,7 @@ use crate::load::jle;
 use crate::load::jlt;
 use crate::load::jne;
 use crate::load::jset;
-use crate::load::push_guard;
+use crate::guarded::push_guard;
 use crate::load::push_load;
 use ebpf::insn::Insn;
 use ebpf::insn::R2;
@@ -28,6 +28,7 @@ use filter::record::step_at;
 use patches::Patches;
 use patches::push;
 use patches::push_failure;
+use patches::push_jump;
 ghost use mathlib.Core.Path.{_≡_};
 ghost use Rattle.patches.specs.Code.{em, block};
 ghost use Prim.Native.Nat.{_+_, _*_};
@@ -50,14 +51,14 @@ pub(crate) fn emit_cmp(
     ensures { λ r. ⌜ em (now (out .exit)) (now (work .exit)) r ≡ block (emit-cmp mode op value) (em (now (out .entry)) (now (work .entry)) st) ⌝ }
 {
     match op {
-        CmpOp::Eq => push_failure(out, work, st, jne(mode, value, 0)),
-        CmpOp::Ne => push_failure(out, work, st, jeq(mode, value, 0)),
-        CmpOp::Gt => push_failure(out, work, st, jle(mode, value, 0)),
-        CmpOp::Ge => push_failure(out, work, st, jlt(mode, value, 0)),
-        CmpOp::Lt => push_failure(out, work, st, jge(mode, value, 0)),
-        CmpOp::Le => push_failure(out, work, st, jgt(mode, value, 0)),
+        CmpOp::Eq => push_failure(out, work, st, jne(mode, value)),
+        CmpOp::Ne => push_failure(out, work, st, jeq(mode, value)),
+        CmpOp::Gt => push_failure(out, work, st, jle(mode, value)),
+        CmpOp::Ge => push_failure(out, work, st, jlt(mode, value)),
+        CmpOp::Lt => push_failure(out, work, st, jge(mode, value)),
+        CmpOp::Le => push_failure(out, work, st, jgt(mode, value)),
         CmpOp::BitAnd => {
-            let a = push(out, work, st, jset(mode, value, 1));
+            let a = push_jump(out, work, st, jset(mode, value), 1);
             push_failure(out, work, a, Insn::ja(0))
         }
     }

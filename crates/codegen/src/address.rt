@@ -1,7 +1,7 @@
 // IPv4 hosts and nets.
 use crate::ether::emit_ethertype;
 use crate::ether::net_plus;
-use crate::load::emit_load;
+use crate::guarded::emit_load;
 use crate::load::jeq;
 use crate::load::jne;
 use ebpf::insn::Insn;
@@ -38,7 +38,7 @@ pub(crate) fn check_host_at(
     ensures { λ r. ⌜ em (now (out .exit)) (now (work .exit)) r ≡ block (check-word-at mode link [] k off) (em (now (out .entry)) (now (work .entry)) st) ⌝ }
 {
     let a = emit_load(out, work, st, AccessSize::Word, off);
-    push_failure(out, work, a, jne(mode, k, 0))
+    push_failure(out, work, a, jne(mode, k))
 }
 
 // `check_addr4`.
@@ -59,7 +59,7 @@ pub(crate) fn check_host(
     match dir {
         Dir::SrcOrDst => {
             let a = emit_load(out, work, st, AccessSize::Word, src);
-            let b = push_success(out, work, a, jeq(mode, k, 0));
+            let b = push_success(out, work, a, jeq(mode, k));
             check_host_at(out, work, b, mode, link, k, dst)
         }
         Dir::Src => check_host_at(out, work, st, mode, link, k, src),
@@ -114,7 +114,7 @@ pub(crate) fn check_net_at(
 {
     let a = emit_load(out, work, st, AccessSize::Word, off);
     let b = push(out, work, a, Insn::and32_imm(R4, mask));
-    push_failure(out, work, b, jne(mode, k, 0))
+    push_failure(out, work, b, jne(mode, k))
 }
 
 // The checks of `emit_net`.
@@ -137,7 +137,7 @@ pub(crate) fn check_net(
         Dir::SrcOrDst => {
             let a = emit_load(out, work, st, AccessSize::Word, src);
             let b = push(out, work, a, Insn::and32_imm(R4, mask));
-            let c = push_success(out, work, b, jeq(mode, k, 0));
+            let c = push_success(out, work, b, jeq(mode, k));
             check_net_at(out, work, c, mode, link, mask, k, dst)
         }
         Dir::Src => check_net_at(out, work, st, mode, link, mask, k, src),

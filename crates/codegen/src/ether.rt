@@ -1,6 +1,6 @@
 // Ethertype and the protocols above it.
-use crate::load::check;
-use crate::load::emit_load;
+use crate::guarded::check;
+use crate::guarded::emit_load;
 use crate::load::jeq;
 use crate::load::jne;
 use ebpf::insn::Insn;
@@ -10,8 +10,8 @@ use filter::ast::LinkType;
 use filter::ast::Proto;
 use filter::ast::ether_proto_offset;
 use patches::Patches;
-use patches::push;
 use patches::push_failure;
+use patches::push_jump;
 ghost use mathlib.Core.Path.{_≡_};
 ghost use Rattle.patches.specs.Code.{em, block};
 ghost use Prim.Native.Nat.{_+_};
@@ -111,8 +111,8 @@ pub(crate) fn emit_dual_at(
     ensures { λ r. ⌜ em (now (out .exit)) (now (work .exit)) r ≡ block (dual-at mode (At off) link proto) (em (now (out .entry)) (now (work .entry)) st) ⌝ }
 {
     let a = emit_load(out, work, st, AccessSize::Half, off);
-    let b = push(out, work, a, jeq(mode, 0x0800, 7));
-    let c = push_failure(out, work, b, jne(mode, 0x86dd, 0));
+    let b = push_jump(out, work, a, jeq(mode, 0x0800), 7);
+    let c = push_failure(out, work, b, jne(mode, 0x86dd));
     let d = check(
         out,
         work,
@@ -122,7 +122,7 @@ pub(crate) fn emit_dual_at(
         net_plus(link, 6),
         proto,
     );
-    let e = push(out, work, d, Insn::ja(5));
+    let e = push_jump(out, work, d, Insn::ja(0), 5);
     check(
         out,
         work,

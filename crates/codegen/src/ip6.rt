@@ -1,8 +1,8 @@
 // IPv6 hosts and nets.
 use crate::ether::emit_ethertype;
 use crate::ether::net_plus;
-use crate::lead::emit_load_to;
-use crate::lead::push_failing;
+use crate::guarded::emit_load_to;
+use crate::guarded::push_failing;
 use crate::load::jne;
 use ebpf::insn::Insn;
 use ebpf::insn::R4;
@@ -65,12 +65,12 @@ fn check_segment(
     let seg = segment(addr, i);
     let a = emit_load_to(out, work, st, AccessSize::Half, at + 2 * i, end);
     if end_bit <= prefix_len {
-        push_failing(out, work, a, jne(mode, seg, 0), end)
+        push_failing(out, work, a, jne(mode, seg), end)
     } else {
         let mask = segment_mask(prefix_len - start_bit);
         let expected = seg & mask;
         let b = push(out, work, a, Insn::and32_imm(R4, mask));
-        push_failing(out, work, b, jne(mode, expected, 0), end)
+        push_failing(out, work, b, jne(mode, expected), end)
     }
 }
 

@@ -2,8 +2,8 @@
 mod access;
 mod address;
 mod ether;
+mod guarded;
 mod ip6;
-mod lead;
 mod load;
 mod mac;
 mod ports;

@@ -1,20 +1,16 @@
-// Loads with guard and single checks. A register that is not named is R4, and R2 is the frame's start.
+// Loads into R4, and the conditional jumps on R4.
 use ebpf::insn::Insn;
-use ebpf::insn::R2;
-use ebpf::insn::R3;
 use ebpf::insn::R4;
-use ebpf::insn::R5;
 use filter::ast::AccessSize;
 use patches::Patches;
 use patches::push;
-use patches::push_failure;
 ghost use mathlib.Core.Path.{_≡_};
 ghost use Rattle.patches.specs.Code.{em, block};
-ghost use Prim.Native.Nat.{_+_, _%_, _^_};
+ghost use Prim.Native.Nat.{_%_, _^_};
 ghost use Rattle.filter.specs.declared.ast.AccessSize.the-variants.{Byte, Half, Word};
 ghost use Rattle.ebpf.specs.Insn.{jump-imm};
 ghost use Rattle.ebpf.specs.Opcode.{JEQ, JNE, JGT, JGE, JLT, JLE, JSET};
-ghost use Rattle.codegen.specs.Fragments.{Fits, guard, load, size-bytes, end-of, emit-load, class-of, check};
+ghost use Rattle.codegen.specs.Fragments.{Fits, load, size-bytes, end-of, class-of};
 
 // `x as i16`: the low 16 bits.
 fn low16(x: u32) -> u16
@@ -38,22 +34,6 @@ pub(crate) fn end_of(size: AccessSize, offset: u32) -> u32
     ensures { λ r. ⌜ r ≡ end-of size offset ⌝ }
 {
     std::num::wrapping_add_u32(offset, size_bytes(size))
-}
-
-// R5 = base + end, which must not lie past R3.
-pub(crate) fn push_guard(
-    out: &mut [u8],
-    work: &mut [u32],
-    st: Patches,
-    base: u8,
-    end: u32,
-) -> Patches
-    requires { ⌜ Fits (guard base end) st ⌝ }
-    ensures { λ r. ⌜ em (now (out .exit)) (now (work .exit)) r ≡ block (guard base end) (em (now (out .entry)) (now (work .entry)) st) ⌝ }
-{
-    let a = push(out, work, st, Insn::mov64_reg(R5, base));
-    let b = push(out, work, a, Insn::add64_imm(R5, end));
-    push_failure(out, work, b, Insn::jgt_reg(R5, R3, 0))
 }
 
 fn push_ldx_b(out: &mut [u8], work: &mut [u32], st: Patches, base: u8, off: u32) -> Patches
@@ -98,126 +78,73 @@ pub(crate) fn push_load(
     }
 }
 
-// `emit_load_byte`, `emit_load_half`, `emit_load_word`.
-pub(crate) fn emit_load(
-    out: &mut [u8],
-    work: &mut [u32],
-    st: Patches,
-    size: AccessSize,
-    offset: u32,
-) -> Patches
-    requires { ⌜ Fits (emit-load size offset) st ⌝ }
-    ensures { λ r. ⌜ em (now (out .exit)) (now (work .exit)) r ≡ block (emit-load size offset) (em (now (out .entry)) (now (work .entry)) st) ⌝ }
-{
-    let a = push_guard(out, work, st, R2, end_of(size, offset));
-    push_load(out, work, a, size, R2, offset)
-}
-
-// The conditional jumps on R4 and an immediate: class JMP in plain mode, JMP32 in mended mode.
-pub(crate) fn jeq(mode: u8, k: u32, off: u16) -> Insn
-    ensures { λ r. ⌜ r ≡ jump-imm (class-of mode) JEQ 4 k off ⌝ }
+// The conditional jumps on R4 and an immediate, their distance still 0: class JMP in plain mode, JMP32 in mended mode.
+pub(crate) fn jeq(mode: u8, k: u32) -> Insn
+    ensures { λ r. ⌜ r ≡ jump-imm (class-of mode) JEQ 4 k 0 ⌝ }
 {
     if mode == 0 {
-        Insn::jeq_imm(R4, k, off)
+        Insn::jeq_imm(R4, k, 0)
     } else {
-        Insn::jeq32_imm(R4, k, off)
+        Insn::jeq32_imm(R4, k, 0)
     }
 }
 
-pub(crate) fn jne(mode: u8, k: u32, off: u16) -> Insn
-    ensures { λ r. ⌜ r ≡ jump-imm (class-of mode) JNE 4 k off ⌝ }
+pub(crate) fn jne(mode: u8, k: u32) -> Insn
+    ensures { λ r. ⌜ r ≡ jump-imm (class-of mode) JNE 4 k 0 ⌝ }
 {
     if mode == 0 {
-        Insn::jne_imm(R4, k, off)
+        Insn::jne_imm(R4, k, 0)
     } else {
-        Insn::jne32_imm(R4, k, off)
+        Insn::jne32_imm(R4, k, 0)
     }
 }
 
-pub(crate) fn jgt(mode: u8, k: u32, off: u16) -> Insn
-    ensures { λ r. ⌜ r ≡ jump-imm (class-of mode) JGT 4 k off ⌝ }
+pub(crate) fn jgt(mode: u8, k: u32) -> Insn
+    ensures { λ r. ⌜ r ≡ jump-imm (class-of mode) JGT 4 k 0 ⌝ }
 {
     if mode == 0 {
-        Insn::jgt_imm(R4, k, off)
+        Insn::jgt_imm(R4, k, 0)
     } else {
-        Insn::jgt32_imm(R4, k, off)
+        Insn::jgt32_imm(R4, k, 0)
     }
 }
 
-pub(crate) fn jge(mode: u8, k: u32, off: u16) -> Insn
-    ensures { λ r. ⌜ r ≡ jump-imm (class-of mode) JGE 4 k off ⌝ }
+pub(crate) fn jge(mode: u8, k: u32) -> Insn
+    ensures { λ r. ⌜ r ≡ jump-imm (class-of mode) JGE 4 k 0 ⌝ }
 {
     if mode == 0 {
-        Insn::jge_imm(R4, k, off)
+        Insn::jge_imm(R4, k, 0)
     } else {
-        Insn::jge32_imm(R4, k, off)
+        Insn::jge32_imm(R4, k, 0)
     }
 }
 
-pub(crate) fn jlt(mode: u8, k: u32, off: u16) -> Insn
-    ensures { λ r. ⌜ r ≡ jump-imm (class-of mode) JLT 4 k off ⌝ }
+pub(crate) fn jlt(mode: u8, k: u32) -> Insn
+    ensures { λ r. ⌜ r ≡ jump-imm (class-of mode) JLT 4 k 0 ⌝ }
 {
     if mode == 0 {
-        Insn::jlt_imm(R4, k, off)
+        Insn::jlt_imm(R4, k, 0)
     } else {
-        Insn::jlt32_imm(R4, k, off)
+        Insn::jlt32_imm(R4, k, 0)
     }
 }
 
-pub(crate) fn jle(mode: u8, k: u32, off: u16) -> Insn
-    ensures { λ r. ⌜ r ≡ jump-imm (class-of mode) JLE 4 k off ⌝ }
+pub(crate) fn jle(mode: u8, k: u32) -> Insn
+    ensures { λ r. ⌜ r ≡ jump-imm (class-of mode) JLE 4 k 0 ⌝ }
 {
     if mode == 0 {
-        Insn::jle_imm(R4, k, off)
+        Insn::jle_imm(R4, k, 0)
     } else {
-        Insn::jle32_imm(R4, k, off)
+        Insn::jle32_imm(R4, k, 0)
     }
 }
 
-pub(crate) fn jset(mode: u8, k: u32, off: u16) -> Insn
-    ensures { λ r. ⌜ r ≡ jump-imm (class-of mode) JSET 4 k off ⌝ }
+pub(crate) fn jset(mode: u8, k: u32) -> Insn
+    ensures { λ r. ⌜ r ≡ jump-imm (class-of mode) JSET 4 k 0 ⌝ }
 {
     if mode == 0 {
-        Insn::jset_imm(R4, k, off)
+        Insn::jset_imm(R4, k, 0)
     } else {
-        Insn::jset32_imm(R4, k, off)
+        Insn::jset32_imm(R4, k, 0)
     }
-}
-
-// `check_byte`, `check_half`, `check_word`.
-pub(crate) fn check(
-    out: &mut [u8],
-    work: &mut [u32],
-    st: Patches,
-    mode: u8,
-    size: AccessSize,
-    offset: u32,
-    expected: u32,
-) -> Patches
-    requires { ⌜ Fits (check mode size offset expected) st ⌝ }
-    ensures { λ r. ⌜ em (now (out .exit)) (now (work .exit)) r ≡ block (check mode size offset expected) (em (now (out .entry)) (now (work .entry)) st) ⌝ }
-{
-    let a = emit_load(out, work, st, size, offset);
-    push_failure(out, work, a, jne(mode, expected, 0))
-}
-
-// The number at an offset from a place in the frame; their sum is in 32 bits, as the Rust's.
-pub(crate) fn emit_load_from(
-    out: &mut [u8],
-    work: &mut [u32],
-    st: Patches,
-    size: AccessSize,
-    base: u32,
-    offset: u32,
-) -> Patches
-    requires { ⌜ Fits (emit-load size (base + offset)) st ⌝ }
-    ensures { λ r. ⌜ em (now (out .exit)) (now (work .exit)) r ≡ block (emit-load size (base + offset)) (em (now (out .entry)) (now (work .entry)) st) ⌝ }
-{
-    emit_load(
-        out,
-        work,
-        st,
-        size,
-        std::num::wrapping_add_u32(base, offset),
-    )
 }

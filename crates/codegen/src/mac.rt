@@ -1,5 +1,5 @@
 // MAC addresses: a number of 48 bits.
-use crate::lead::check_to;
+use crate::guarded::check_to;
 use ebpf::insn::Insn;
 use filter::ast::AccessSize;
 use filter::ast::Dir;

@@ -1,11 +1,11 @@
 // Ports: the transport header's place in R6, then the numbers there.
 use crate::access::emit_transport;
 use crate::ether::net_plus;
-use crate::load::check;
-use crate::load::emit_load;
+use crate::guarded::check;
+use crate::guarded::emit_load;
 use crate::load::jeq;
 use crate::load::jne;
-use crate::load::push_guard;
+use crate::guarded::push_guard;
 use crate::load::push_load;
 use ebpf::insn::Insn;
 use ebpf::insn::R2;
@@ -21,6 +21,7 @@ use filter::ast::net_offset;
 use patches::Patches;
 use patches::push;
 use patches::push_failure;
+use patches::push_jump;
 use patches::push_success;
 ghost use mathlib.Core.Path.{_≡_};
 ghost use Prim.Native.Nat.{suc};
@@ -72,8 +73,8 @@ fn emit_l4_proto_check(
     match proto {
         MaybeProto::NoProto => {
             let a = emit_load(out, work, st, AccessSize::Byte, off);
-            let b = push(out, work, a, jeq(mode, 6, 1));
-            push_failure(out, work, b, jne(mode, 17, 0))
+            let b = push_jump(out, work, a, jeq(mode, 6), 1);
+            push_failure(out, work, b, jne(mode, 17))
         }
         MaybeProto::SomeProto(p) => check(
             out,
@@ -156,10 +157,10 @@ fn prereqs_at(
     ensures { λ r. ⌜ em (now (out .exit)) (now (work .exit)) r ≡ block (prereqs-at mode link (At off) proto) (em (now (out .entry)) (now (work .entry)) st) ⌝ }
 {
     let a = emit_load(out, work, st, AccessSize::Half, off);
-    let b = push(out, work, a, jeq(mode, 0x0800, past_v6(mode, link, proto)));
-    let c = push_failure(out, work, b, jne(mode, 0x86dd, 0));
+    let b = push_jump(out, work, a, jeq(mode, 0x0800), past_v6(mode, link, proto));
+    let c = push_failure(out, work, b, jne(mode, 0x86dd));
     let d = prereqs_v6(out, work, c, mode, link, proto);
-    let e = push(out, work, d, Insn::ja(past_v4(mode, link, proto)));
+    let e = push_jump(out, work, d, Insn::ja(0), past_v4(mode, link, proto));
     prereqs_v4(out, work, e, mode, link, proto)
 }
 
@@ -195,7 +196,7 @@ fn check_port(
     ensures { λ r. ⌜ em (now (out .exit)) (now (work .exit)) r ≡ block (check-port mode link off port) (em (now (out .entry)) (now (work .entry)) st) ⌝ }
 {
     let a = push_load(out, work, st, AccessSize::Half, R6, off);
-    push_failure(out, work, a, jne(mode, port, 0))
+    push_failure(out, work, a, jne(mode, port))
 }
 
 // The ports: the source's is at 0, the destination's at 2.
@@ -214,7 +215,7 @@ fn check_ports(
     match dir {
         Dir::SrcOrDst => {
             let a = push_load(out, work, st, AccessSize::Half, R6, 0);
-            let b = push_success(out, work, a, jeq(mode, port, 0));
+            let b = push_success(out, work, a, jeq(mode, port));
             check_port(out, work, b, mode, link, 2, port)
         }
         Dir::Src => check_port(out, work, st, mode, link, 0, port),

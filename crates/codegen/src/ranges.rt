@@ -1,5 +1,5 @@
 // Port ranges, once R6 is at the transport header.
-use crate::lead::push_failing;
+use crate::guarded::push_failing;
 use crate::load::jgt;
 use crate::load::jlt;
 use crate::load::push_load;
@@ -33,8 +33,8 @@ fn check_range(
     ensures { λ r. ⌜ em (now (out .exit)) (now (work .exit)) r ≡ block (lead end (st .pos) (check-range mode link off lo hi)) (em (now (out .entry)) (now (work .entry)) st) ⌝ }
 {
     let a = push_load(out, work, st, AccessSize::Half, R6, off);
-    let b = push_failing(out, work, a, jlt(mode, lo as u32, 0), end);
-    push_failing(out, work, b, jgt(mode, hi as u32, 0), end)
+    let b = push_failing(out, work, a, jlt(mode, lo as u32), end);
+    push_failing(out, work, b, jgt(mode, hi as u32), end)
 }
 
 // The checks of `emit_portrange`.

@@ -1,9 +1,9 @@
 // Multicast, broadcast and the tags behind the ethertype.
 use crate::ether::emit_ethertype;
 use crate::ether::net_plus;
-use crate::load::check;
-use crate::load::emit_load;
-use crate::load::emit_load_from;
+use crate::guarded::check;
+use crate::guarded::emit_load;
+use crate::guarded::emit_load_from;
 use crate::load::jeq;
 use crate::load::jne;
 use crate::load::jset;
@@ -18,6 +18,7 @@ use filter::ast::ether_proto_offset;
 use patches::Patches;
 use patches::push;
 use patches::push_failure;
+use patches::push_jump;
 ghost use mathlib.Core.Path.{_≡_};
 ghost use Rattle.patches.specs.Code.{em, block};
 ghost use Prim.Native.Nat.{_+_};
@@ -56,7 +57,7 @@ pub(crate) fn emit_ether_multicast(
     ensures { λ r. ⌜ em (now (out .exit)) (now (work .exit)) r ≡ block (emit-ether-multicast mode link) (em (now (out .entry)) (now (work .entry)) st) ⌝ }
 {
     let a = emit_load(out, work, st, AccessSize::Byte, 0);
-    let b = push(out, work, a, jset(mode, 1, 1));
+    let b = push_jump(out, work, a, jset(mode, 1), 1);
     push_failure(out, work, b, Insn::ja(0))
 }
 
@@ -97,7 +98,7 @@ pub(crate) fn emit_ip_multicast(
     let a = emit_ethertype(out, work, st, mode, link, 0x0800);
     let b = emit_load(out, work, a, AccessSize::Word, net_plus(link, 16));
     let c = push(out, work, b, Insn::and32_imm(R4, 0xf000_0000));
-    push_failure(out, work, c, jne(mode, 0xe000_0000, 0))
+    push_failure(out, work, c, jne(mode, 0xe000_0000))
 }
 
 // `emit_ip6_multicast`.
@@ -140,7 +141,7 @@ pub(crate) fn emit_vlan_id(
         MaybeId::SomeId(n) => {
             let a = emit_load(out, work, st, AccessSize::Half, tag_offset(link, 14, 2));
             let b = push(out, work, a, Insn::and32_imm(R4, 0x0fff));
-            push_failure(out, work, b, jne(mode, wide(n), 0))
+            push_failure(out, work, b, jne(mode, wide(n)))
         }
     }
 }
@@ -221,7 +222,7 @@ fn emit_mpls_label(
         MaybeLabel::SomeLabel(n) => {
             let a = emit_load_from(out, work, st, AccessSize::Word, off, 2);
             let b = push(out, work, a, Insn::rsh32_imm(R4, 12));
-            push_failure(out, work, b, jne(mode, n, 0))
+            push_failure(out, work, b, jne(mode, n))
         }
     }
 }
@@ -240,8 +241,8 @@ fn emit_mpls_at(
     ensures { λ r. ⌜ em (now (out .exit)) (now (work .exit)) r ≡ block (mpls-at mode link (At off) label) (em (now (out .entry)) (now (work .entry)) st) ⌝ }
 {
     let a = emit_load(out, work, st, AccessSize::Half, off);
-    let b = push(out, work, a, jeq(mode, 0x8847, 1));
-    let c = push_failure(out, work, b, jne(mode, 0x8848, 0));
+    let b = push_jump(out, work, a, jeq(mode, 0x8847), 1);
+    let c = push_failure(out, work, b, jne(mode, 0x8848));
     emit_mpls_label(out, work, c, mode, link, off, label)
 }
 

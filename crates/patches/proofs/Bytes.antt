@@ -1,17 +1,19 @@
 -- Bytes that begin with instructions: an instruction more, a distance set, a run more.
-use Prim.Native.Nat.{ℕ, zero, suc, _+_, _-_, _*_, _≤_}
+use Prim.Native.Nat.{ℕ, zero, suc, _+_, _-_, _*_, _/_, _%_, _<_, _≤_}
 use mathlib.Core.Path.{_≡_, refl, sym, ap, _∙_, subst}
 use mathlib.Core.List.{List, [], _∷_, _++_, append-assoc, append-nil}
 use mathlib.Core.Bool.{Bool, true, false, cond}
 use native.Mathlib.Omega.{arith}
-use borrow.Author.Tests.{le-leb}
+use borrow.Author.Tests.{le-leb, lt-leb}
 use lib.Dec.{leb, ltb}
-use lib.ListN.{length, take, drop, length-set, length-append}
-use lib.Seq.{sets, sets-eq, length-sets, take-at}
+use lib.ListN.{length, take, drop, set, length-set, length-append}
+use lib.Seq.{sets, sets-eq, length-sets, length-take-le, take-at}
 use Rattle.ebpf.specs.Insn.{storedAt, to-le-bytes}
 use Rattle.ebpf.specs.declared.insn.Insn.{Insn}
 use Rattle.patches.specs.Chain.{resolved, putOff}
-use Rattle.patches.specs.Code.{Slot, insn, outs, putInsn}
+use Rattle.patches.specs.Code.{Slot, Emission, em, push1, insn, outs, putInsn, with-off}
+use Rattle.patches.specs.Code.Slot.{fixed}
+use Rattle.patches.specs.declared.Patches.{Patches}
 use Rattle.program.specs.Program.{codeOf}
 use Rattle.patches.specs.Listing.{setOff, resolvedL, listed, Begins}
 
@@ -71,6 +73,55 @@ resolved-begins t (p ∷ ps) is o b = go (ltb 32767 (t - suc p)) (resolved-begin
     go true e = b
     go false e = e
 
+-- The distance of the instruction that was written last; where there was no room for it, none was written.
+set-past : (m k v : ℕ) (t x : List ℕ) → m ≡ length t + k → set (t ++ x) m v ≡ t ++ set x k v
+set-past m k v [] x e = let z : m ≡ k = omega (arith, e) in ap (λ (q : ℕ). set x q v) z
+set-past m k v (y ∷ t) x e =
+    let z : m ≡ suc (length t + k) = omega (arith, e) in
+    ap (λ (q : ℕ). set (y ∷ (t ++ x)) q v) z ∙ ap (λ r. y ∷ r) (set-past (length t + k) k v t x refl)
+
+put-split : (i : Insn) (p : ℕ) (o : List ℕ) → 8 * p + 8 ≤ length o → putInsn o p i ≡ take (8 * p) o ++ (to-le-bytes i ++ drop (8 * p + 8) o)
+unfolding putInsn storedAt to-le-bytes
+put-split i p o h = rw (le-leb (8 * p + 8) (length o) h) (sets-eq (to-le-bytes i) o (8 * p) h ∙ append-assoc (take (8 * p) o) (to-le-bytes i) (drop (8 * p + 8) o))
+
+put-off : (i : Insn) (p d : ℕ) (o : List ℕ) → 8 * p + 8 ≤ length o → putOff (putInsn o p i) p d ≡ putInsn o p (with-off d i)
+unfolding putOff to-le-bytes with-off
+put-off i p d o h =
+    let front : length (take (8 * p) o) ≡ 8 * p = length-take-le (8 * p) o (omega arith) in
+    let rest = drop (8 * p + 8) o in
+    ap (λ (x : List ℕ). putOff x p d) (put-split i p o h)
+    ∙ ap (λ (x : List ℕ). set x (8 * p + 3) (d / 256)) (set-past (8 * p + 2) 2 (d % 256) (take (8 * p) o) (to-le-bytes i ++ rest) (omega (arith, front)))
+    ∙ set-past (8 * p + 3) 3 (d / 256) (take (8 * p) o) (set (to-le-bytes i ++ rest) 2 (d % 256)) (omega (arith, front))
+    ∙ sym (put-split (with-off d i) p o h)
+
+put-none : (i j : Insn) (p : ℕ) (o : List ℕ) → length o < 8 * p + 8 → putInsn o p i ≡ putInsn o p j
+unfolding putInsn storedAt
+put-none i j p o h = rw (lt-leb (8 * p + 8) (length o) h) refl
+
+pub length-put : (o : List ℕ) (p : ℕ) (i : Insn) → length (putInsn o p i) ≡ length o
+unfolding putInsn storedAt
+length-put o p i = go (leb (8 * p + 8) (length o))
+  where
+    go : (x : Bool) → length (cond x (sets o (8 * p) (to-le-bytes i)) o) ≡ length o
+    go true = length-sets o (8 * p) (to-le-bytes i)
+    go false = refl
+
+-- So a jump is written, and its distance set.
+module _ (o w : List ℕ) (st : Patches) (i : Insn) (d : ℕ) (o1 w1 : List ℕ) (st1 : Patches) where
+  pub jumped : em o1 w1 st1 ≡ push1 (fixed i) (em o w st) → 8 * st .pos + 8 ≤ length o1
+      → em (putOff o1 (st .pos) d) w1 st1 ≡ push1 (fixed (with-off d i)) (em o w st)
+  unfolding push1
+  jumped h room =
+      let there : 8 * st .pos + 8 ≤ length o = omega (arith, room, ap length (ap (λ (e : Emission). e .out) h), length-put o (st .pos) i) in
+      ap (λ (e : Emission). em (putOff (e .out) (st .pos) d) (e .work) (e .patches)) h
+      ∙ ap (λ (x : List ℕ). em x w (record { pos = st .pos + 1; success = st .success; failure = st .failure })) (put-off i (st .pos) d o there)
+
+  pub no-room : em o1 w1 st1 ≡ push1 (fixed i) (em o w st) → length o1 < 8 * st .pos + 8 → em o1 w1 st1 ≡ push1 (fixed (with-off d i)) (em o w st)
+  unfolding push1
+  no-room h none =
+      let nowhere : length o < 8 * st .pos + 8 = omega (arith, none, ap length (ap (λ (e : Emission). e .out) h), length-put o (st .pos) i) in
+      h ∙ ap (λ (x : List ℕ). em x w (record { pos = st .pos + 1; success = st .success; failure = st .failure })) (put-none i (with-off d i) (st .pos) o nowhere)
+
 -- How many instructions and bytes there are then.
 length-setOff : (is : List Insn) (p d : ℕ) → length (setOff is p d) ≡ length is
 unfolding setOff
@@ -86,14 +137,6 @@ length-resolvedL t (p ∷ ps) is = go (ltb 32767 (t - suc p)) (length-resolvedL 
     go : (x : Bool) → length (resolvedL t ps (setOff is p (t - suc p))) ≡ length is → length (cond x is (resolvedL t ps (setOff is p (t - suc p)))) ≡ length is
     go true e = refl
     go false e = e
-
-pub length-put : (o : List ℕ) (p : ℕ) (i : Insn) → length (putInsn o p i) ≡ length o
-unfolding putInsn storedAt
-length-put o p i = go (leb (8 * p + 8) (length o))
-  where
-    go : (x : Bool) → length (cond x (sets o (8 * p) (to-le-bytes i)) o) ≡ length o
-    go true = length-sets o (8 * p) (to-le-bytes i)
-    go false = refl
 
 length-off : (o : List ℕ) (p d : ℕ) → length (putOff o p d) ≡ length o
 unfolding putOff

@@ -14,6 +14,10 @@ pub data Slot : Type 0 where
 unfoldable pub putInsn : List ℕ → ℕ → Insn → List ℕ
 putInsn out p i = storedAt out (8 * p) i
 
+-- The distance of a jump is set.
+unfoldable pub with-off : ℕ → Insn → Insn
+with-off d i = record { code = i .code; regs = i .regs; off = d; imm = i .imm }
+
 -- What is lent, output and work, and the patches by value.
 pub record Emission : Type 0 where
   pub out : List ℕ

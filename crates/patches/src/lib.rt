@@ -1,11 +1,11 @@
 // Patch bookkeeping of ebpf_codegen.rs: instructions with open jumps in lent bytes, the lists of these jumps and the
-// operators that wait in lent numbers. Six functions are `pub`, for the crate `codegen` alone: it shows what they ask.
+// operators that wait in lent numbers. Seven functions are `pub`, for the crates of the generator: they show what it asks.
 use ebpf::insn::Insn;
 ghost use mathlib.Core.Path.{_≡_};
 ghost use Prim.Native.Nat.{_+_, _*_, _^_, _<_, _≤_};
 ghost use lib.ListN.{length, set};
 ghost use Rattle.patches.specs.Chain.{Descends, chainOf, putOff, resolved, reach};
-ghost use Rattle.patches.specs.Code.{Room, em, push1};
+ghost use Rattle.patches.specs.Code.{Room, with-off, em, push1};
 ghost use Rattle.patches.specs.Code.Slot.{fixed, success, failure};
 ghost use Rattle.patches.specs.Finish.{CloseOk, FinishOk};
 ghost use Rattle.patches.specs.Lists.{pushed, pushedLinks, joined, joinedLinks, savedAt, saveAt};
@@ -50,7 +50,7 @@ fn at(x: u32) -> usize
     x as usize
 }
 
-// One place sets a jump's distance.
+// The one place that sets a jump's distance.
 fn put_off(out: &mut [u8], p: usize, distance: usize)
     requires { ⌜ (8 * p + 8 ≤ length (now out)) × (distance < 65536) ⌝ }
     ensures { λ r. ⌜ now (out .exit) ≡ putOff (now (out .entry)) p distance ⌝ }
@@ -144,6 +144,19 @@ pub fn push(out: &mut [u8], work: &mut [u32], st: Patches, i: Insn) -> Patches
         success,
         failure,
     }
+}
+
+// A jump over so many instructions; where there is no room for it, `store` wrote nothing and nothing is set.
+pub fn push_jump(out: &mut [u8], work: &mut [u32], st: Patches, i: Insn, distance: u16) -> Patches
+    requires { ⌜ Room 1 st ⌝ }
+    ensures { λ r. ⌜ em (now (out .exit)) (now (work .exit)) r ≡ push1 (fixed (with-off distance i)) (em (now (out .entry)) (now (work .entry)) st) ⌝ }
+{
+    let p = at(st.pos);
+    let x = push(out, work, st, i);
+    if 8 * p + 8 <= out.len() {
+        put_off(out, p, distance as usize);
+    }
+    x
 }
 
 // A jump that is open on success.

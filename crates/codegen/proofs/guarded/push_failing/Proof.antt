@@ -2,8 +2,8 @@
 use Rattle.codegen.specs.Fragments.{led}
 use borrow.Author.Tests.{eq-eqb, ne-eqb}
 use borrow.Author.Needs.{needs}
-use Rattle.codegen.proofs.lead.push_failing.Statement.{statement}
-use Rattle.codegen.proofs.lead.push_failing.Tie as tie
+use Rattle.codegen.proofs.guarded.push_failing.Statement.{statement}
+use Rattle.codegen.proofs.guarded.push_failing.Tie as tie
 
 push-failure-requires : tie.Need-push-failure-requires
 push-failure-requires c κs = search needs
@@ -11,11 +11,8 @@ push-failure-requires c κs = search needs
 distance-requires : tie.Need-distance-requires
 distance-requires c κs = search needs
 
-with-off-requires : tie.Need-with-off-requires
-with-off-requires c κs = search needs
-
-push-requires : tie.Need-push-requires
-push-requires c κs = search needs
+push-jump-requires : tie.Need-push-jump-requires
+push-jump-requires c κs = search needs
 
 same-length : tie.Need-same-length
 same-length c = c .before .before .before .before .push-failure .kept .0
@@ -28,14 +25,14 @@ unfolding led
 returns c = rw (eq-eqb _ _ (c .before .before .before .before .before .before .before .if1 .taken)) (c .before .before .before .before .push-failure .ensures)
 
 same-length-3 : tie.Need-same-length-3
-same-length-3 c = c .before .before .before .before .push .kept .0
+same-length-3 c = c .before .before .before .before .push-jump .kept .0
 
 same-length-4 : tie.Need-same-length-4
-same-length-4 c = c .before .before .before .before .push .kept .1 .0
+same-length-4 c = c .before .before .before .before .push-jump .kept .1 .0
 
 returns-2 : tie.Need-returns-2
 unfolding led
-returns-2 c = rw (ne-eqb _ _ (c .before .before .before .before .before .before .before .before .before .if1 .left)) (rw (c .before .before .before .before .before .with-off .ensures, c .before .before .before .before .before .before .distance .ensures) at (c .before .before .before .before .push .ensures))
+returns-2 c = rw (ne-eqb _ _ (c .before .before .before .before .before .before .before .before .if1 .left)) (rw (c .before .before .before .before .before .distance .ensures) at (c .before .before .before .before .push-jump .ensures))
 
 pub push-failing-spec : {M : Type 1} → statement M
 push-failing-spec =
@@ -43,8 +40,7 @@ push-failing-spec =
     (tie.spec
     push-failure-requires
     distance-requires
-    with-off-requires
-    push-requires
+    push-jump-requires
     same-length
     same-length-2
     returns

@@ -1,8 +1,8 @@
 -- The sum may wrap.
 use Rattle.codegen.proofs.Pieces.{load-wraps}
 use borrow.Author.Needs.{needs}
-use Rattle.codegen.proofs.load.emit_load_from.Statement.{statement}
-use Rattle.codegen.proofs.load.emit_load_from.Tie as tie
+use Rattle.codegen.proofs.guarded.emit_load_from.Statement.{statement}
+use Rattle.codegen.proofs.guarded.emit_load_from.Tie as tie
 
 wrapping-add-u32-requires : tie.Need-wrapping-add-u32-requires
 wrapping-add-u32-requires c κs = search needs

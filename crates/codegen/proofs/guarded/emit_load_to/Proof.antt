@@ -3,8 +3,8 @@ use Rattle.codegen.specs.Fragments.{emit-load}
 use Rattle.codegen.proofs.Leading.{fits, first-to, second-to, then-to, loaded}
 use mathlib.Core.Path.{_∙_}
 use borrow.Author.Needs.{needs}
-use Rattle.codegen.proofs.lead.emit_load_to.Statement.{statement}
-use Rattle.codegen.proofs.lead.emit_load_to.Tie as tie
+use Rattle.codegen.proofs.guarded.emit_load_to.Statement.{statement}
+use Rattle.codegen.proofs.guarded.emit_load_to.Tie as tie
 
 end-of-requires : tie.Need-end-of-requires
 end-of-requires c κs = search needs

@@ -3,8 +3,8 @@ use Rattle.codegen.specs.Fragments.{check, fails}
 use Rattle.codegen.proofs.Leading.{first-to, second-to, head-to, then-to, one-to}
 use mathlib.Core.Path.{_∙_}
 use borrow.Author.Needs.{needs}
-use Rattle.codegen.proofs.lead.check_to.Statement.{statement}
-use Rattle.codegen.proofs.lead.check_to.Tie as tie
+use Rattle.codegen.proofs.guarded.check_to.Statement.{statement}
+use Rattle.codegen.proofs.guarded.check_to.Tie as tie
 
 emit-load-to-requires : tie.Need-emit-load-to-requires
 unfolding check fails

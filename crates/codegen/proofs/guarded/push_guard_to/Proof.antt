@@ -4,8 +4,8 @@ use Rattle.codegen.proofs.Pieces.{head}
 use Rattle.codegen.proofs.Leading.{fits, head-to, tail-to, step-to, one-to}
 use mathlib.Core.Path.{_∙_}
 use borrow.Author.Needs.{needs}
-use Rattle.codegen.proofs.lead.push_guard_to.Statement.{statement}
-use Rattle.codegen.proofs.lead.push_guard_to.Tie as tie
+use Rattle.codegen.proofs.guarded.push_guard_to.Statement.{statement}
+use Rattle.codegen.proofs.guarded.push_guard_to.Tie as tie
 
 mov64-reg-requires : tie.Need-mov64-reg-requires
 mov64-reg-requires c κs = search needs

@@ -1,5 +1,6 @@
-// Checks whose failing jumps lead to a place that is known beforehand: in `check(src); ja; check(dst)` the source's
-// failures lead to the destination's check. Where the place is 0 they stay open.
+// Loads with guard and single checks. A register that is not named is R4, and R2 is the frame's start. Failing jumps lead
+// to a place that is known beforehand (in `check(src); ja; check(dst)` the source's lead to the destination's check) or,
+// where the place is 0, stay open.
 use crate::load::end_of;
 use crate::load::jne;
 use crate::load::push_load;
@@ -11,12 +12,13 @@ use filter::ast::AccessSize;
 use patches::Patches;
 use patches::push;
 use patches::push_failure;
+use patches::push_jump;
 ghost use mathlib.Core.Path.{_≡_};
 ghost use mathlib.Core.List.{[], _∷_};
 ghost use Prim.Native.Nat.{suc, _+_, _-_, _≤_};
 ghost use Rattle.patches.specs.Code.{em, push1, block};
 ghost use Rattle.patches.specs.Code.Slot.{failure};
-ghost use Rattle.codegen.specs.Fragments.{Leads, with-off, led, lead, guard, emit-load, check};
+ghost use Rattle.codegen.specs.Fragments.{Fits, Leads, led, lead, guard, emit-load, check};
 
 // How far it is from behind place p to place end.
 fn distance(p: u32, end: u32) -> u16
@@ -24,18 +26,6 @@ fn distance(p: u32, end: u32) -> u16
     ensures { λ r. ⌜ r ≡ end - suc p ⌝ }
 {
     if end <= p { 0 } else { (end - p - 1) as u16 }
-}
-
-// The distance of a jump is set.
-fn with_off(i: Insn, off: u16) -> Insn
-    ensures { λ r. ⌜ r ≡ with-off off i ⌝ }
-{
-    Insn {
-        code: i.code,
-        regs: i.regs,
-        off,
-        imm: i.imm,
-    }
 }
 
 // A jump that leads to place end on failure, or one that is open.
@@ -52,7 +42,7 @@ pub(crate) fn push_failing(
     if end == 0 {
         push_failure(out, work, st, i)
     } else {
-        push(out, work, st, with_off(i, distance(st.pos, end)))
+        push_jump(out, work, st, i, distance(st.pos, end))
     }
 }
 
@@ -73,6 +63,20 @@ fn push_guard_to(
     push_failing(out, work, b, Insn::jgt_reg(R5, R3, 0), end)
 }
 
+// The same, open.
+pub(crate) fn push_guard(
+    out: &mut [u8],
+    work: &mut [u32],
+    st: Patches,
+    base: u8,
+    end: u32,
+) -> Patches
+    requires { ⌜ Fits (guard base end) st ⌝ }
+    ensures { λ r. ⌜ em (now (out .exit)) (now (work .exit)) r ≡ block (guard base end) (em (now (out .entry)) (now (work .entry)) st) ⌝ }
+{
+    push_guard_to(out, work, st, base, end, 0)
+}
+
 // `emit_load_byte`, `emit_load_half`, `emit_load_word`.
 pub(crate) fn emit_load_to(
     out: &mut [u8],
@@ -87,6 +91,41 @@ pub(crate) fn emit_load_to(
 {
     let a = push_guard_to(out, work, st, R2, end_of(size, offset), end);
     push_load(out, work, a, size, R2, offset)
+}
+
+// The same, open.
+pub(crate) fn emit_load(
+    out: &mut [u8],
+    work: &mut [u32],
+    st: Patches,
+    size: AccessSize,
+    offset: u32,
+) -> Patches
+    requires { ⌜ Fits (emit-load size offset) st ⌝ }
+    ensures { λ r. ⌜ em (now (out .exit)) (now (work .exit)) r ≡ block (emit-load size offset) (em (now (out .entry)) (now (work .entry)) st) ⌝ }
+{
+    emit_load_to(out, work, st, size, offset, 0)
+}
+
+// The number at an offset from a place in the frame; their sum is in 32 bits, as the Rust's.
+pub(crate) fn emit_load_from(
+    out: &mut [u8],
+    work: &mut [u32],
+    st: Patches,
+    size: AccessSize,
+    base: u32,
+    offset: u32,
+) -> Patches
+    requires { ⌜ Fits (emit-load size (base + offset)) st ⌝ }
+    ensures { λ r. ⌜ em (now (out .exit)) (now (work .exit)) r ≡ block (emit-load size (base + offset)) (em (now (out .entry)) (now (work .entry)) st) ⌝ }
+{
+    emit_load(
+        out,
+        work,
+        st,
+        size,
+        std::num::wrapping_add_u32(base, offset),
+    )
 }
 
 // `check_byte`, `check_half`, `check_word`.
@@ -104,5 +143,21 @@ pub(crate) fn check_to(
     ensures { λ r. ⌜ em (now (out .exit)) (now (work .exit)) r ≡ block (lead end (st .pos) (check mode size offset expected)) (em (now (out .entry)) (now (work .entry)) st) ⌝ }
 {
     let a = emit_load_to(out, work, st, size, offset, end);
-    push_failing(out, work, a, jne(mode, expected, 0), end)
+    push_failing(out, work, a, jne(mode, expected), end)
+}
+
+// The same, open.
+pub(crate) fn check(
+    out: &mut [u8],
+    work: &mut [u32],
+    st: Patches,
+    mode: u8,
+    size: AccessSize,
+    offset: u32,
+    expected: u32,
+) -> Patches
+    requires { ⌜ Fits (check mode size offset expected) st ⌝ }
+    ensures { λ r. ⌜ em (now (out .exit)) (now (work .exit)) r ≡ block (check mode size offset expected) (em (now (out .entry)) (now (work .entry)) st) ⌝ }
+{
+    check_to(out, work, st, mode, size, offset, expected, 0)
 }

@@ -14,10 +14,10 @@ use Rattle.filter.specs.declared.ast.LinkType.the-variants.{Ethernet, RawIp}
 use Rattle.filter.specs.declared.ast.Ipv6Addr.{Ipv6Addr}
 use Rattle.filter.specs.declared.ast.Dir.{Dir}
 use Rattle.filter.specs.declared.ast.Dir.the-variants.{SrcOrDst, Src, Dst, SrcAndDst}
-use Rattle.codegen.specs.Fragments.{Fits, Leads, lead, one-of, sides}
+use Rattle.pieces.specs.Fragments.{Fits, Leads, lead, one-of, sides}
 use Rattle.codegen.specs.Primitives.{first-side, past-sides, side-end, over, check-segment, check-net6}
-use Rattle.codegen.proofs.Leading.{lead-none, lead-length, lead-settled, first-to, second-to, then-to}
-use Rattle.codegen.proofs.Pieces.{first, second, then}
+use Rattle.pieces.proofs.Leading.{lead-none, lead-length, lead-settled, first-to, second-to, then-to}
+use Rattle.pieces.proofs.Pieces.{first, second, then}
 
 -- The inner loop, over the halves of one address.
 module _ (mode : ℕ) (link : LinkType) (addr : Ipv6Addr) (prefix at end : ℕ) where

@@ -1,4 +1,2 @@
 pub mod Sizes
-pub mod Pieces
-pub mod Leading
 pub mod Halves

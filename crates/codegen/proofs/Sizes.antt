@@ -10,7 +10,8 @@ use lib.ListN.{length, length-append}
 use lib.Dec.{eqb, leb, ltb}
 use Rattle.patches.specs.Code.{Slot}
 use Rattle.patches.specs.Code.Slot.{fixed, success, failure}
-use Rattle.codegen.specs.Fragments.{settled, one-of, sides, guard, load, size-bytes, emit-load, emit-steps, transport, class-of, fails, skips, succeeds, check, emit-cmp, emit-ethertype, emit-ip4-l4, emit-ip6-l4, emit-dual-l4}
+use Rattle.pieces.proofs.Leading.{settled-length}
+use Rattle.pieces.specs.Fragments.{settled, one-of, sides, guard, load, size-bytes, emit-load, emit-steps, transport, class-of, fails, skips, succeeds, check, emit-cmp, emit-ethertype, emit-ip4-l4, emit-ip6-l4, emit-dual-l4}
 use Rattle.codegen.specs.Primitives.{check-word-at, check-addr4, emit-host4, emit-net, check-segment, check-net6, emit-net6, emit-l4-proto-check, prereqs-v6, prereqs-v4, emit-port-prereqs, check-port, check-ports, emit-port, check-range, emit-portrange, check-mac, emit-ether-host, emit-ether-multicast, emit-ip-broadcast, emit-ip-multicast, emit-ip6-multicast, emit-vlan, emit-mpls, emit-pppoe-session, emit-len, emit-proto, steps-and-cmp, access-at, access-rhs, emit-byte-access, emit-primitive, mirrored}
 use Rattle.checks.specs.Length as count
 use Rattle.checks.specs.Refusal.{refusal, onRaw, stepsRefusal, accessRefusal, rhsRefusal}
@@ -41,14 +42,6 @@ use Rattle.filter.specs.declared.ast.AccessSize.{AccessSize}
 use Rattle.filter.specs.declared.ast.AccessSize.the-variants.{Byte, Half, Word}
 use Rattle.filter.specs.declared.ast.CmpOp.{CmpOp}
 use Rattle.filter.specs.declared.ast.CmpOp.the-variants.{Eq, Ne, Lt, Le, Gt, Ge, BitAnd}
-
--- Filling jumps changes no length.
-pub settled-length : (k : ℕ) (xs : List Slot) → length (settled k xs) ≡ length xs
-unfolding settled
-settled-length k [] = refl
-settled-length k (fixed i ∷ xs) = ap suc (settled-length k xs)
-settled-length k (success i ∷ xs) = ap suc (settled-length k xs)
-settled-length k (failure i ∷ xs) = ap suc (settled-length k xs)
 
 -- Two checks of n instructions each; for either, a JA between them.
 sides-length : (dir : Dir) (xs ys : List Slot) (n : ℕ) → length xs ≡ n → length ys ≡ n → length (sides dir xs ys) ≡ count.sides dir n 1

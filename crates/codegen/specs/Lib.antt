@@ -1,2 +1,1 @@
-pub mod Fragments
 pub mod Primitives

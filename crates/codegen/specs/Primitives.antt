@@ -10,8 +10,8 @@ use Rattle.ebpf.specs.Insn.{alu64-reg, alu64-imm, alu32-imm, jump-always}
 use Rattle.patches.specs.Code.{Slot}
 use Rattle.patches.specs.Code.Slot.{fixed, success, failure}
 use Rattle.checks.specs.Refusal.{refusal}
-use Rattle.codegen.specs.Fragments.{past, sides, guard, load, end-of, emit-load, emit-steps, transport, fails, skips, succeeds, check, emit-cmp}
-use Rattle.codegen.specs.Fragments.{emit-ethertype, emit-ip4-l4, emit-ip6-l4, emit-dual-l4}
+use Rattle.pieces.specs.Fragments.{past, sides, guard, load, end-of, emit-load, emit-steps, transport, fails, skips, succeeds, check, emit-cmp}
+use Rattle.pieces.specs.Fragments.{emit-ethertype, emit-ip4-l4, emit-ip6-l4, emit-dual-l4}
 use Rattle.filter.specs.Ast.{etherProtoOffset, netOffset}
 use Rattle.filter.specs.declared.ast.LinkType.{LinkType}
 use Rattle.filter.specs.declared.ast.EtherOffset.{EtherOffset}

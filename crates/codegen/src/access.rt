@@ -1,16 +1,4 @@
 // Comparisons, the steps of a byte access, length and byte access.
-use crate::guarded::emit_load;
-use crate::guarded::emit_load_from;
-use crate::load::end_of;
-use crate::load::jeq;
-use crate::load::jge;
-use crate::load::jgt;
-use crate::load::jle;
-use crate::load::jlt;
-use crate::load::jne;
-use crate::load::jset;
-use crate::guarded::push_guard;
-use crate::load::push_load;
 use ebpf::insn::Insn;
 use ebpf::insn::R2;
 use ebpf::insn::R3;
@@ -29,13 +17,25 @@ use patches::Patches;
 use patches::push;
 use patches::push_failure;
 use patches::push_jump;
+use pieces::guarded::emit_load;
+use pieces::guarded::emit_load_from;
+use pieces::guarded::push_guard;
+use pieces::load::end_of;
+use pieces::load::jeq;
+use pieces::load::jge;
+use pieces::load::jgt;
+use pieces::load::jle;
+use pieces::load::jlt;
+use pieces::load::jne;
+use pieces::load::jset;
+use pieces::load::push_load;
 ghost use mathlib.Core.Path.{_≡_};
 ghost use Rattle.patches.specs.Code.{em, block};
 ghost use Prim.Native.Nat.{_+_, _*_};
 ghost use Rattle.filter.specs.Record.{stepAt};
 ghost use Rattle.filter.specs.declared.ast.Layer.the-variants.{Trans};
 ghost use Rattle.ebpf.specs.Insn.{alu32-imm};
-ghost use Rattle.codegen.specs.Fragments.{Fits, alu32-of, emit-steps, transport, emit-cmp};
+ghost use Rattle.pieces.specs.Fragments.{Fits, alu32-of, emit-steps, transport, emit-cmp};
 ghost use Rattle.codegen.specs.Primitives.{emit-len, steps-and-cmp, access-at, emit-byte-access};
 
 // `emit_cmp`: a jump where the comparison fails; BitAnd jumps over one.

@@ -1,9 +1,4 @@
 // IPv4 hosts and nets.
-use crate::ether::emit_ethertype;
-use crate::ether::net_plus;
-use crate::guarded::emit_load;
-use crate::load::jeq;
-use crate::load::jne;
 use ebpf::insn::Insn;
 use ebpf::insn::R4;
 use filter::ast::AccessSize;
@@ -14,6 +9,11 @@ use patches::Patches;
 use patches::push;
 use patches::push_failure;
 use patches::push_success;
+use pieces::ether::emit_ethertype;
+use pieces::ether::net_plus;
+use pieces::guarded::emit_load;
+use pieces::load::jeq;
+use pieces::load::jne;
 ghost use mathlib.Core.Path.{_≡_};
 ghost use Rattle.patches.specs.Code.{em, block};
 ghost use mathlib.Core.List.{[], _∷_};
@@ -21,7 +21,7 @@ ghost use lib.Bits.{bitAnd};
 ghost use Rattle.ebpf.specs.Insn.{alu32-imm};
 ghost use Rattle.ebpf.specs.Opcode.{AND};
 ghost use Rattle.patches.specs.Code.Slot.{fixed};
-ghost use Rattle.codegen.specs.Fragments.{Fits};
+ghost use Rattle.pieces.specs.Fragments.{Fits};
 ghost use Rattle.codegen.specs.Primitives.{check-word-at, check-addr4, emit-host4, emit-net};
 
 // The word at off is k.

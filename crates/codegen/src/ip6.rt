@@ -1,9 +1,4 @@
 // IPv6 hosts and nets.
-use crate::ether::emit_ethertype;
-use crate::ether::net_plus;
-use crate::guarded::emit_load_to;
-use crate::guarded::push_failing;
-use crate::load::jne;
 use ebpf::insn::Insn;
 use ebpf::insn::R4;
 use filter::ast::AccessSize;
@@ -13,13 +8,18 @@ use filter::ast::LinkType;
 use patches::Patches;
 use patches::push;
 use patches::push_success;
+use pieces::ether::emit_ethertype;
+use pieces::ether::net_plus;
+use pieces::guarded::emit_load_to;
+use pieces::guarded::push_failing;
+use pieces::load::jne;
 ghost use mathlib.Core.Path.{_≡_};
 ghost use Prim.Native.Nat.{ℕ, _+_, _*_, _^_, _<_, _≤_};
 ghost use lib.ListN.{length};
 ghost use Rattle.patches.specs.Code.{em, block};
 ghost use Rattle.filter.specs.Ast.{netOffset};
 ghost use Rattle.checks.specs.Length.{clip};
-ghost use Rattle.codegen.specs.Fragments.{Fits, Leads, lead, sides};
+ghost use Rattle.pieces.specs.Fragments.{Fits, Leads, lead, sides};
 ghost use Rattle.codegen.specs.Primitives.{segment, segment-mask, first-side, past-sides, side-end, over, check-segment, check-net6, emit-net6};
 
 // `addr.segments()[i]`.

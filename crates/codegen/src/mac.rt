@@ -1,15 +1,15 @@
 // MAC addresses: a number of 48 bits.
-use crate::guarded::check_to;
 use ebpf::insn::Insn;
 use filter::ast::AccessSize;
 use filter::ast::Dir;
 use filter::ast::LinkType;
 use patches::Patches;
 use patches::push_success;
+use pieces::guarded::check_to;
 ghost use mathlib.Core.Path.{_≡_};
 ghost use Prim.Native.Nat.{_≤_};
 ghost use Rattle.patches.specs.Code.{em, block};
-ghost use Rattle.codegen.specs.Fragments.{Fits, Leads, lead};
+ghost use Rattle.pieces.specs.Fragments.{Fits, Leads, lead};
 ghost use Rattle.codegen.specs.Primitives.{check-mac, emit-ether-host};
 
 // The first four bytes of an address, then the last two.

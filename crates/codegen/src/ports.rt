@@ -1,12 +1,5 @@
 // Ports: the transport header's place in R6, then the numbers there.
 use crate::access::emit_transport;
-use crate::ether::net_plus;
-use crate::guarded::check;
-use crate::guarded::emit_load;
-use crate::load::jeq;
-use crate::load::jne;
-use crate::guarded::push_guard;
-use crate::load::push_load;
 use ebpf::insn::Insn;
 use ebpf::insn::R2;
 use ebpf::insn::R6;
@@ -23,11 +16,18 @@ use patches::push;
 use patches::push_failure;
 use patches::push_jump;
 use patches::push_success;
+use pieces::ether::net_plus;
+use pieces::guarded::check;
+use pieces::guarded::emit_load;
+use pieces::guarded::push_guard;
+use pieces::load::jeq;
+use pieces::load::jne;
+use pieces::load::push_load;
 ghost use mathlib.Core.Path.{_≡_};
 ghost use Prim.Native.Nat.{suc};
 ghost use Rattle.patches.specs.Code.{em, block};
 ghost use Rattle.filter.specs.declared.ast.EtherOffset.the-variants.{At};
-ghost use Rattle.codegen.specs.Fragments.{Fits, past};
+ghost use Rattle.pieces.specs.Fragments.{Fits, past};
 ghost use Rattle.codegen.specs.Primitives.{l4-number, emit-l4-proto-check, prereqs-v6, prereqs-v4, prereqs-at, emit-port-prereqs};
 ghost use Rattle.codegen.specs.Primitives.{check-port, check-ports, emit-port};
 

@@ -3,13 +3,10 @@ use crate::access::emit_byte_access;
 use crate::access::emit_len;
 use crate::address::emit_host4;
 use crate::address::emit_net;
-use crate::ether::emit_ethertype;
-use crate::ether::emit_ip4_l4;
-use crate::ether::emit_ip6_l4;
-use crate::ether::emit_proto;
 use crate::ip6::emit_net6;
 use crate::mac::emit_ether_host;
 use crate::ports::emit_port;
+use crate::proto::emit_proto;
 use crate::ranges::emit_portrange;
 use crate::tags::emit_ether_multicast;
 use crate::tags::emit_ip_broadcast;
@@ -21,9 +18,12 @@ use crate::tags::emit_vlan;
 use filter::ast::LinkType;
 use filter::ast::Primitive;
 use patches::Patches;
+use pieces::ether::emit_ethertype;
+use pieces::ether::emit_ip4_l4;
+use pieces::ether::emit_ip6_l4;
 ghost use mathlib.Core.Path.{_≡_};
 ghost use Rattle.patches.specs.Code.{em, block};
-ghost use Rattle.codegen.specs.Fragments.{Fits};
+ghost use Rattle.pieces.specs.Fragments.{Fits};
 ghost use Rattle.codegen.specs.Primitives.{emit-primitive};
 
 // The steps of a byte access begin at step `from`; `inbound` and `outbound` are refused before.

@@ -1,8 +1,4 @@
 // Port ranges, once R6 is at the transport header.
-use crate::guarded::push_failing;
-use crate::load::jgt;
-use crate::load::jlt;
-use crate::load::push_load;
 use crate::ports::emit_port_prereqs;
 use ebpf::insn::Insn;
 use ebpf::insn::R6;
@@ -12,9 +8,13 @@ use filter::ast::LinkType;
 use filter::ast::MaybeProto;
 use patches::Patches;
 use patches::push_success;
+use pieces::guarded::push_failing;
+use pieces::load::jgt;
+use pieces::load::jlt;
+use pieces::load::push_load;
 ghost use mathlib.Core.Path.{_≡_};
 ghost use Rattle.patches.specs.Code.{em, block};
-ghost use Rattle.codegen.specs.Fragments.{Fits, Leads, lead, sides};
+ghost use Rattle.pieces.specs.Fragments.{Fits, Leads, lead, sides};
 ghost use Rattle.codegen.specs.Primitives.{check-range, emit-portrange};
 
 // The port at off lies in lo..=hi.

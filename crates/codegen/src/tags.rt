@@ -1,12 +1,4 @@
 // Multicast, broadcast and the tags behind the ethertype.
-use crate::ether::emit_ethertype;
-use crate::ether::net_plus;
-use crate::guarded::check;
-use crate::guarded::emit_load;
-use crate::guarded::emit_load_from;
-use crate::load::jeq;
-use crate::load::jne;
-use crate::load::jset;
 use ebpf::insn::Insn;
 use ebpf::insn::R4;
 use filter::ast::AccessSize;
@@ -19,12 +11,20 @@ use patches::Patches;
 use patches::push;
 use patches::push_failure;
 use patches::push_jump;
+use pieces::ether::emit_ethertype;
+use pieces::ether::net_plus;
+use pieces::guarded::check;
+use pieces::guarded::emit_load;
+use pieces::guarded::emit_load_from;
+use pieces::load::jeq;
+use pieces::load::jne;
+use pieces::load::jset;
 ghost use mathlib.Core.Path.{_≡_};
 ghost use Rattle.patches.specs.Code.{em, block};
 ghost use Prim.Native.Nat.{_+_};
 ghost use Rattle.filter.specs.Ast.{etherProtoOffset};
 ghost use Rattle.filter.specs.declared.ast.EtherOffset.the-variants.{At};
-ghost use Rattle.codegen.specs.Fragments.{Fits};
+ghost use Rattle.pieces.specs.Fragments.{Fits};
 ghost use Rattle.codegen.specs.Primitives.{unwrap-or, emit-ether-multicast, emit-ip-broadcast, emit-ip-multicast, emit-ip6-multicast};
 ghost use Rattle.codegen.specs.Primitives.{vlan-id, emit-vlan, mpls-label, mpls-at, emit-mpls, session-id, emit-pppoe-session};
 

@@ -34,7 +34,7 @@ use Rattle.checks.specs.Refusal.{onRaw, etherRefusal, protoRefusal, portRefusal
 use Rattle.meaning.specs.Frame.{there, number, passes}
 use Rattle.meaning.specs.Meaning as M
 use Rattle.meaning.specs.Evaluate.{primitiveHolds, expressionHolds}
-use Rattle.codegen.specs.Fragments.{sides, guard, load, size-bytes, end-of, emit-load, emit-steps, transport, class-of, fails, skips, succeeds, check, emit-cmp, emit-ethertype}
+use Rattle.pieces.specs.Fragments.{sides, guard, load, size-bytes, end-of, emit-load, emit-steps, transport, class-of, fails, skips, succeeds, check, emit-cmp, emit-ethertype}
 use Rattle.codegen.specs.Primitives.{segment, segment-mask, check-word-at, check-addr4, emit-host4, check-segment, check-net6, emit-net6, emit-l4-proto-check, prereqs-v4, emit-port-prereqs, check-port, check-ports, emit-port, emit-proto, steps-and-cmp, access-at, emit-byte-access, emit-primitive}
 use Rattle.patches.specs.Chain.{reach}
 use Rattle.patches.specs.Code.{successes, failures}

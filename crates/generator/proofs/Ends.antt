@@ -15,7 +15,7 @@ use Rattle.patches.proofs.Blocks.{out-block}
 use Rattle.patches.proofs.Reading.{heads-lt, turn}
 use Rattle.patches.proofs.Places.{AllLt}
 use Rattle.patches.proofs.Unchanged.{from-trans, from-outs, from-resolved}
-use Rattle.codegen.specs.Fragments.{Fits}
+use Rattle.pieces.specs.Fragments.{Fits}
 use Rattle.generator.specs.declared.Compiled.the-variants.{Refused, Program}
 use Rattle.generator.specs.Compile.{TryOk}
 

@@ -20,7 +20,7 @@ use Rattle.checks.specs.Check.{wrongIn, sheetWrong, lowestWrong, takes, stepsBe
 use Rattle.checks.specs.Length.{ethertypeSize, protoSize, countOf, sizeOf, sizeAt, sizesOf, programLength}
 use Rattle.checks.specs.Measure.{measured, measureOf, roomed, admitOf}
 use Rattle.checks.specs.Refusal.{protoRefusal, refusal}
-use Rattle.codegen.specs.Fragments.{guard, load, size-bytes, end-of, emit-load, class-of, fails, check, emit-ethertype}
+use Rattle.pieces.specs.Fragments.{guard, load, size-bytes, end-of, emit-load, class-of, fails, check, emit-ethertype}
 use Rattle.codegen.specs.Primitives.{emit-proto, emit-primitive}
 use Rattle.patches.specs.Chain.{reach}
 use Rattle.patches.specs.Code.{successes, failures}

@@ -8,7 +8,7 @@ use lib.ListN.{length}
 use Rattle.filter.specs.declared.ast.LinkType.{LinkType}
 use Rattle.filter.specs.declared.ast.Primitive.{Primitive}
 use Rattle.checks.specs.Refusal.{refusal}
-use Rattle.codegen.specs.Fragments.{Fits}
+use Rattle.pieces.specs.Fragments.{Fits}
 use Rattle.codegen.specs.Primitives.{emit-primitive}
 use Rattle.patches.specs.declared.Patches.{Patches}
 use Rattle.patches.specs.Machine.{sizeOf}

@@ -33,7 +33,7 @@ ghost use Rattle.patches.specs.Same.{SameFrom, zeroed};
 ghost use Rattle.patches.specs.Listing.{compileL};
 ghost use Rattle.patches.specs.Whole.{prologue, epilogue, compiled, ended};
 ghost use Rattle.tree.specs.Tree.{treeOf};
-ghost use Rattle.codegen.specs.Fragments.{Fits};
+ghost use Rattle.pieces.specs.Fragments.{Fits};
 ghost use Rattle.generator.specs.Template.{templateOf, template};
 ghost use Rattle.generator.specs.Compile.{start, WalkOk, TryOk, Sized, outcomeOf, answerOf, outputAfter, workAfter};
 ghost use Rattle.generator.specs.Compile.Outcome.{late};

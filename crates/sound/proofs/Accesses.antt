@@ -9,7 +9,7 @@ use native.Mathlib.Nat.{zero-add, add-assoc}
 use borrow.Author.Tests.{leb-false, leb-true, ltb-false, eqb-true, eqb-false}
 use lib.Dec.{eqb, leb, ltb}
 use lib.ListN.{length, getD}
-use Rattle.codegen.specs.Fragments.{emit-load}
+use Rattle.pieces.specs.Fragments.{emit-load}
 use Rattle.codegen.specs.Primitives.{steps-and-cmp, access-at}
 use Rattle.filter.specs.Bytes.{be2, be4}
 use Rattle.filter.specs.First.{any}

@@ -12,7 +12,7 @@ use Rattle.ebpf.specs.Insn.{alu32-imm}
 use Rattle.ebpf.specs.Alu.{alu32}
 use Rattle.patches.specs.Code.{Slot}
 use Rattle.patches.specs.Code.Slot.{fixed}
-use Rattle.codegen.specs.Fragments.{emit-load, fails}
+use Rattle.pieces.specs.Fragments.{emit-load, fails}
 use Rattle.codegen.specs.Primitives.{check-word-at, check-addr4, emit-host4, emit-net}
 use Rattle.filter.specs.Ast.{netOffset}
 use Rattle.filter.specs.declared.ast.LinkType.{LinkType}

@@ -12,7 +12,7 @@ use Rattle.ebpf.specs.Insn.{jump-always}
 use Rattle.ebpf.specs.Alu.{compares}
 use Rattle.patches.specs.Code.{Slot}
 use Rattle.patches.specs.Code.Slot.{fixed, failure}
-use Rattle.codegen.specs.Fragments.{past, class-of, fails, skips, succeeds, emit-cmp}
+use Rattle.pieces.specs.Fragments.{past, class-of, fails, skips, succeeds, emit-cmp}
 use Rattle.filter.specs.declared.ast.CmpOp.{CmpOp}
 use Rattle.filter.specs.declared.ast.CmpOp.the-variants.{Eq, Ne, Lt, Le, Gt, Ge, BitAnd}
 use Rattle.meaning.specs.Meaning.{compared}

@@ -13,8 +13,8 @@ use Rattle.patches.specs.Finish.{ja}
 use Rattle.patches.specs.Whole as whole
 use Rattle.patches.specs.Listing.{resolvedL, listed, ResL, andDoneL, orDoneL}
 use Rattle.patches.specs.Listing.ResL.{okL}
-use Rattle.codegen.specs.Fragments.{past, settled, one-of}
-use Rattle.codegen.proofs.Sizes.{settled-length}
+use Rattle.pieces.specs.Fragments.{past, settled, one-of}
+use Rattle.pieces.proofs.Leading.{settled-length}
 use Rattle.sound.specs.Filled.{filled}
 use Rattle.sound.specs.Trees.{landed, swapped, both-of, none-of, epilogue}
 use Rattle.sound.specs.Fitting.{SuccessNear, FailureNear}

@@ -6,7 +6,7 @@ use mathlib.Core.List.{List}
 use native.Mathlib.Omega.{arith}
 use borrow.Author.Tests.{eqb-true}
 use lib.Dec.{eqb}
-use Rattle.codegen.specs.Fragments.{past, guard, load, emit-load, check, fails, emit-ethertype, emit-ip4-l4, emit-ip6-l4, emit-dual-l4}
+use Rattle.pieces.specs.Fragments.{past, guard, load, emit-load, check, fails, emit-ethertype, emit-ip4-l4, emit-ip6-l4, emit-dual-l4}
 use Rattle.filter.specs.Ast.{etherProtoOffset, netOffset}
 use Rattle.filter.specs.declared.ast.LinkType.{LinkType}
 use Rattle.filter.specs.declared.ast.LinkType.the-variants.{Ethernet, RawIp}

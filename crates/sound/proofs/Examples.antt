@@ -3,7 +3,8 @@ use mathlib.Core.Path.{_≡_, refl}
 use mathlib.Core.List.{[]}
 use lib.ListN.{length}
 use Rattle.ebpf.specs.Insn.{new}
-use Rattle.codegen.specs.Fragments.{with-off, past, guard, load, size-bytes, end-of, emit-load, fails, succeeds, check, class-of, emit-ethertype}
+use Rattle.patches.specs.Code.{with-off}
+use Rattle.pieces.specs.Fragments.{past, guard, load, size-bytes, end-of, emit-load, fails, succeeds, check, class-of, emit-ethertype}
 use Rattle.codegen.specs.Primitives.{check-word-at, check-addr4, emit-host4, emit-proto, emit-primitive}
 use Rattle.filter.specs.Ast.{etherProtoOffset}
 use Rattle.filter.specs.declared.ast.LinkType.the-variants.{Ethernet, RawIp}

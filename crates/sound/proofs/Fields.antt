@@ -9,7 +9,7 @@ use Rattle.ebpf.specs.Insn.{alu32-imm}
 use Rattle.ebpf.specs.Alu.{alu32}
 use Rattle.patches.specs.Code.{Slot}
 use Rattle.patches.specs.Code.Slot.{fixed}
-use Rattle.codegen.specs.Fragments.{emit-load, check, alu32-of, emit-steps}
+use Rattle.pieces.specs.Fragments.{emit-load, check, alu32-of, emit-steps}
 use Rattle.filter.specs.Record.{stepAt}
 use Rattle.filter.specs.declared.ast.AccessSize.{AccessSize}
 use Rattle.filter.specs.declared.ast.CmpOp.the-variants.{Eq}

@@ -7,9 +7,9 @@ use lib.ListN.{length}
 use Rattle.ebpf.specs.Insn.{new, jump-imm, jump-reg, jump-always}
 use Rattle.ebpf.specs.declared.insn.Insn.{Insn}
 use Rattle.ebpf.specs.declared.regs.Regs.{Regs}
-use Rattle.patches.specs.Code.{Slot}
+use Rattle.patches.specs.Code.{Slot, with-off}
 use Rattle.patches.specs.Code.Slot.{fixed, success, failure}
-use Rattle.codegen.specs.Fragments.{with-off, past, settled}
+use Rattle.pieces.specs.Fragments.{past, settled}
 use Rattle.program.specs.Ends.{Ends}
 use Rattle.program.proofs.Steps.{on-skip}
 use Rattle.sound.specs.Filled.{filled}

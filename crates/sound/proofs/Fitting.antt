@@ -5,9 +5,9 @@ use native.Mathlib.Omega.{arith}
 use Rattle.ebpf.specs.Insn.{new}
 use Rattle.ebpf.specs.declared.insn.Insn.{Insn}
 use Rattle.tree.specs.Tree.{Tree, leaf, and, or, inv, leaves}
-use Rattle.patches.specs.Code.{Slot}
+use Rattle.patches.specs.Code.{Slot, with-off}
 use Rattle.patches.specs.Code.Slot.{fixed, success, failure}
-use Rattle.codegen.specs.Fragments.{with-off, past, settled, one-of}
+use Rattle.pieces.specs.Fragments.{past, settled, one-of}
 use Rattle.program.specs.Program.{Fit, Fits, none, one}
 use Rattle.program.proofs.Bytes.{fits-new}
 use Rattle.sound.specs.Filled.{filled}

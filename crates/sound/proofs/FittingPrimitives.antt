@@ -10,8 +10,8 @@ use Rattle.ebpf.specs.Opcode.{JNE, AND, LSH, RSH}
 use Rattle.ebpf.specs.Insn.{alu32-imm}
 use Rattle.patches.specs.Code.{Slot}
 use Rattle.patches.specs.Code.Slot.{fixed}
-use Rattle.codegen.specs.Fragments.{past, sides, guard, load, end-of, emit-load, alu32-of, emit-steps, transport, fails, skips, succeeds, check, emit-cmp}
-use Rattle.codegen.specs.Fragments.{emit-ethertype, emit-ip4-l4, emit-ip6-l4, emit-dual-l4}
+use Rattle.pieces.specs.Fragments.{past, sides, guard, load, end-of, emit-load, alu32-of, emit-steps, transport, fails, skips, succeeds, check, emit-cmp}
+use Rattle.pieces.specs.Fragments.{emit-ethertype, emit-ip4-l4, emit-ip6-l4, emit-dual-l4}
 use Rattle.codegen.specs.Primitives.{segment, segment-mask, check-word-at, check-addr4, emit-host4, emit-net, check-segment, check-net6, emit-net6, l4-number}
 use Rattle.codegen.specs.Primitives.{emit-l4-proto-check, prereqs-v6, prereqs-v4, emit-port-prereqs, check-port, check-ports, emit-port, check-range, emit-portrange}
 use Rattle.codegen.specs.Primitives.{check-mac, mirrored, emit-ether-host, emit-ether-multicast, emit-ip-broadcast, emit-ip-multicast, emit-ip6-multicast, unwrap-or}

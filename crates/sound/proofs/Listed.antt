@@ -20,7 +20,7 @@ use Rattle.patches.specs.Listing.{resolvedL, listed, ResL, whenL, onLeafL, andD
 use Rattle.patches.specs.Listing.{CompL, endL, endedL, resCompL, compileL}
 use Rattle.patches.specs.Listing.ResL.{failL, okL}
 use Rattle.patches.specs.Listing.CompL.{stoppedL, madeL}
-use Rattle.codegen.specs.Fragments.{settled}
+use Rattle.pieces.specs.Fragments.{settled}
 use Rattle.sound.specs.Trees.{landed, treeCode, program}
 use Rattle.sound.specs.Fitting.{SuccessNear, FailureNear, TreeNear}
 use Rattle.sound.proofs.PatchLists.{listed-insns}

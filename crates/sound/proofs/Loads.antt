@@ -11,7 +11,7 @@ use lib.ListN.{length, getD}
 use Rattle.ebpf.specs.Opcode.{JGT}
 use Rattle.ebpf.specs.declared.insn.Insn.{Insn}
 use Rattle.ebpf.specs.declared.regs.Regs.{Regs}
-use Rattle.codegen.specs.Fragments.{past, guard, load, size-bytes, end-of, emit-load}
+use Rattle.pieces.specs.Fragments.{past, guard, load, size-bytes, end-of, emit-load}
 use Rattle.filter.specs.declared.ast.AccessSize.{AccessSize}
 use Rattle.filter.specs.declared.ast.AccessSize.the-variants.{Byte, Half, Word}
 use Rattle.meaning.specs.Frame.{there, number}

@@ -11,7 +11,7 @@ use Rattle.ebpf.specs.Opcode.{AND, JNE}
 use Rattle.ebpf.specs.Insn.{alu32-imm}
 use Rattle.patches.specs.Code.{Slot}
 use Rattle.patches.specs.Code.Slot.{fixed}
-use Rattle.codegen.specs.Fragments.{emit-load, fails, check}
+use Rattle.pieces.specs.Fragments.{emit-load, fails, check}
 use Rattle.codegen.specs.Primitives.{segment, segment-mask, check-segment, check-net6, emit-net6}
 use Rattle.filter.specs.Ast.{netOffset}
 use Rattle.filter.specs.declared.ast.LinkType.{LinkType}

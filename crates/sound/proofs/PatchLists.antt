@@ -11,11 +11,11 @@ use lib.ListN.{length}
 use Rattle.ebpf.specs.declared.insn.Insn.{Insn}
 use Rattle.patches.specs.declared.Patched.the-variants.{Done, TooFar}
 use Rattle.patches.specs.Chain.{reach}
-use Rattle.patches.specs.Code.{Slot, insn, successes, failures}
+use Rattle.patches.specs.Code.{Slot, insn, successes, failures, with-off}
 use Rattle.patches.specs.Code.Slot.{fixed, success, failure}
 use Rattle.patches.specs.Listing.{setOff, resolvedL, listed}
 use Rattle.patches.proofs.Bytes.{length-snoc}
-use Rattle.codegen.specs.Fragments.{with-off, past, settled}
+use Rattle.pieces.specs.Fragments.{past, settled}
 use Rattle.sound.specs.Filled.{filled}
 use Rattle.sound.specs.Trees.{landed, swapped}
 use Rattle.sound.specs.Fitting.{SuccessNear, FailureNear}

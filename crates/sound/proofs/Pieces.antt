@@ -8,7 +8,7 @@ use Rattle.ebpf.specs.Insn.{jump-always}
 use Rattle.ebpf.specs.declared.insn.Insn.{Insn}
 use Rattle.patches.specs.Code.{Slot}
 use Rattle.patches.specs.Code.Slot.{success}
-use Rattle.codegen.specs.Fragments.{past, settled, one-of, sides}
+use Rattle.pieces.specs.Fragments.{past, settled, one-of, sides}
 use Rattle.filter.specs.declared.ast.Dir.{Dir}
 use Rattle.filter.specs.declared.ast.Dir.the-variants.{SrcOrDst, Src, Dst, SrcAndDst}
 use Rattle.meaning.specs.Meaning.{directed}

@@ -11,7 +11,7 @@ use Rattle.tree.specs.Tokens.{count, isJump}
 use Rattle.tree.proofs.Counts.{count-jumps}
 use Rattle.patches.specs.Code.{Slot}
 use Rattle.patches.specs.Code.Slot.{fixed, success, failure}
-use Rattle.codegen.specs.Fragments.{settled, one-of}
+use Rattle.pieces.specs.Fragments.{settled, one-of}
 use Rattle.filter.specs.Record.{decodeAt}
 use Rattle.filter.specs.declared.ast.LinkType.{LinkType}
 use Rattle.checks.specs.Check.{stepsBefore}
@@ -20,7 +20,8 @@ use Rattle.checks.specs.Refusal.{refusalAt}
 use Rattle.sound.specs.Filled.{filled}
 use Rattle.sound.specs.Trees.{landed, swapped, both-of, none-of, treeCode, epilogue, program}
 use Rattle.sound.specs.Sheets.{primitiveCode, sheetCode, Allowed}
-use Rattle.codegen.proofs.Sizes.{settled-length, primitive-length}
+use Rattle.pieces.proofs.Leading.{settled-length}
+use Rattle.codegen.proofs.Sizes.{primitive-length}
 
 pub length-landed : (k : ℕ) (xs : List Slot) → length (landed k xs) ≡ length xs
 unfolding landed

@@ -14,7 +14,7 @@ use Rattle.ebpf.specs.Insn.{alu32-imm, alu64-reg}
 use Rattle.ebpf.specs.Alu.{alu32}
 use Rattle.patches.specs.Code.{Slot}
 use Rattle.patches.specs.Code.Slot.{fixed}
-use Rattle.codegen.specs.Fragments.{emit-load, emit-cmp, fails, skips}
+use Rattle.pieces.specs.Fragments.{emit-load, emit-cmp, fails, skips}
 use Rattle.codegen.specs.Primitives.{unwrap-or, emit-ether-multicast, emit-ip-broadcast, emit-ip-multicast, emit-ip6-multicast, emit-vlan, emit-mpls, emit-pppoe-session, emit-len}
 use Rattle.filter.specs.Ast.{etherProtoOffset, netOffset}
 use Rattle.filter.specs.declared.ast.LinkType.{LinkType}

@@ -14,7 +14,7 @@ use Rattle.ebpf.specs.Opcode.{ADD, AND, LSH, MOV}
 use Rattle.ebpf.specs.Insn.{alu32-imm, alu64-imm, alu64-reg}
 use Rattle.ebpf.specs.Alu.{alu32}
 use Rattle.patches.specs.Code.Slot.{fixed}
-use Rattle.codegen.specs.Fragments.{past, transport, fails}
+use Rattle.pieces.specs.Fragments.{past, transport, fails}
 use Rattle.codegen.specs.Primitives.{emit-l4-proto-check, prereqs-v4, prereqs-v6, emit-port-prereqs}
 use Rattle.filter.specs.Ast.{etherProtoOffset, netOffset}
 use Rattle.filter.specs.declared.ast.LinkType.{LinkType}

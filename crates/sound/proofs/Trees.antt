@@ -9,7 +9,7 @@ use Rattle.ebpf.specs.Regs.{fresh}
 use Rattle.tree.specs.Tree.{Tree, leaf, and, or, inv, leaves, holds}
 use Rattle.patches.specs.Code.{Slot}
 use Rattle.patches.specs.Code.Slot.{fixed, success, failure}
-use Rattle.codegen.specs.Fragments.{past, settled}
+use Rattle.pieces.specs.Fragments.{past, settled}
 use Rattle.program.specs.Ends.{Ends, Frame}
 use Rattle.program.proofs.Registers.{r0}
 use Rattle.program.proofs.Steps.{on-skip, on-ja, on-mov-imm, on-exit}

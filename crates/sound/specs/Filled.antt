@@ -2,9 +2,9 @@
 use Prim.Native.Nat.{ℕ}
 use mathlib.Core.List.{List, [], _∷_}
 use Rattle.ebpf.specs.declared.insn.Insn.{Insn}
-use Rattle.patches.specs.Code.{Slot}
+use Rattle.patches.specs.Code.{Slot, with-off}
 use Rattle.patches.specs.Code.Slot.{fixed, success, failure}
-use Rattle.codegen.specs.Fragments.{with-off, past}
+use Rattle.pieces.specs.Fragments.{past}
 
 -- Successes lead a instructions past the end of the piece, failures b.
 unfoldable pub filled : ℕ → ℕ → List Slot → List Insn

@@ -5,7 +5,7 @@ use Rattle.ebpf.specs.declared.insn.Insn.{Insn}
 use Rattle.tree.specs.Tree.{Tree, leaf, and, or, inv, leaves}
 use Rattle.patches.specs.Code.{Slot}
 use Rattle.patches.specs.Code.Slot.{fixed, success, failure}
-use Rattle.codegen.specs.Fragments.{past}
+use Rattle.pieces.specs.Fragments.{past}
 use Rattle.program.specs.Program.{Fit}
 use Rattle.sound.specs.Trees.{treeCode}
 

@@ -3,7 +3,7 @@ use Prim.Native.Nat.{ℕ, _^_, _<_}
 use mathlib.Core.Path.{_≡_}
 use mathlib.Core.Bool.{Bool, not}
 use Rattle.ebpf.specs.Opcode.{JEQ, JNE, JGT, JGE, JLT, JLE, JSET}
-use Rattle.codegen.specs.Fragments.{class-of}
+use Rattle.pieces.specs.Fragments.{class-of}
 use Rattle.filter.specs.declared.ast.CmpOp.{CmpOp}
 use Rattle.filter.specs.declared.ast.CmpOp.the-variants.{Eq, Ne, Lt, Le, Gt, Ge, BitAnd}
 use Rattle.program.specs.Kinds.{Takes}

@@ -5,9 +5,9 @@ use Rattle.ebpf.specs.Opcode.{MOV, WORD}
 use Rattle.ebpf.specs.Insn.{alu64-imm, ldx, jump-always, exit-insn}
 use Rattle.ebpf.specs.declared.insn.Insn.{Insn}
 use Rattle.tree.specs.Tree.{Tree, leaf, and, or, inv, leaves}
-use Rattle.patches.specs.Code.{Slot}
+use Rattle.patches.specs.Code.{Slot, with-off}
 use Rattle.patches.specs.Code.Slot.{fixed, success, failure}
-use Rattle.codegen.specs.Fragments.{with-off, past, settled, one-of}
+use Rattle.pieces.specs.Fragments.{past, settled, one-of}
 use Rattle.sound.specs.Filled.{filled}
 
 -- `resolve_all(success)`: the open successes lead k instructions past the end of the piece.

@@ -1,7 +1,7 @@
 -- Four instructions.
 use mathlib.Core.Path.{_∙_}
 use Rattle.patches.specs.Whole.{epilogue}
-use Rattle.codegen.proofs.Pieces.{head, tail, step, one}
+use Rattle.pieces.proofs.Pieces.{head, tail, step, one}
 use borrow.Author.Needs.{needs}
 use Rattle.generator.proofs.emit_exits.Statement.{statement}
 use Rattle.generator.proofs.emit_exits.Tie as tie

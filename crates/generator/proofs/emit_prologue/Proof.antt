@@ -1,8 +1,8 @@
 -- Two loads.
 use native.Mathlib.Omega.{arith}
 use Rattle.patches.specs.Whole.{prologue}
-use Rattle.codegen.specs.Fragments.{Fits}
-use Rattle.codegen.proofs.Pieces.{head, tail, step, one}
+use Rattle.pieces.specs.Fragments.{Fits}
+use Rattle.pieces.proofs.Pieces.{head, tail, step, one}
 use Rattle.generator.specs.Compile.{start}
 use borrow.Author.Needs.{needs}
 use Rattle.generator.proofs.emit_prologue.Statement.{statement}

@@ -1,5 +1,5 @@
 -- One case an operator.
-use Rattle.codegen.specs.Fragments.{alu32-of}
+use Rattle.pieces.specs.Fragments.{alu32-of}
 use borrow.Author.Needs.{needs}
 use Rattle.codegen.proofs.access.ebpf_alu32.Statement.{statement}
 use Rattle.codegen.proofs.access.ebpf_alu32.Tie as tie

@@ -1,7 +1,7 @@
 -- One case a layer.
 use Rattle.codegen.specs.Primitives.{access-at}
 use mathlib.Core.Path.{_∙_}
-use Rattle.codegen.proofs.Pieces.{first, second, then}
+use Rattle.pieces.proofs.Pieces.{first, second, then}
 use borrow.Author.Needs.{needs}
 use Rattle.codegen.proofs.access.emit_access_at.Statement.{statement}
 use Rattle.codegen.proofs.access.emit_access_at.Tie as tie

@@ -1,9 +1,9 @@
 -- One case an operator.
 use Rattle.ebpf.specs.Insn.{new}
 use Rattle.patches.specs.Code.{with-off}
-use Rattle.codegen.specs.Fragments.{emit-cmp, fails, skips}
+use Rattle.pieces.specs.Fragments.{emit-cmp, fails, skips}
 use mathlib.Core.Path.{_∙_}
-use Rattle.codegen.proofs.Pieces.{head, tail, step, one}
+use Rattle.pieces.proofs.Pieces.{head, tail, step, one}
 use borrow.Author.Needs.{needs}
 use Rattle.codegen.proofs.access.emit_cmp.Statement.{statement}
 use Rattle.codegen.proofs.access.emit_cmp.Tie as tie

@@ -1,7 +1,7 @@
 -- Two instructions, then the comparison.
 use Rattle.codegen.specs.Primitives.{emit-len}
 use mathlib.Core.Path.{_∙_}
-use Rattle.codegen.proofs.Pieces.{head, tail, step}
+use Rattle.pieces.proofs.Pieces.{head, tail, step}
 use borrow.Author.Needs.{needs}
 use Rattle.codegen.proofs.access.emit_len.Statement.{statement}
 use Rattle.codegen.proofs.access.emit_len.Tie as tie

@@ -10,8 +10,8 @@ use Rattle.filter.specs.Record.{stepAt}
 use Rattle.patches.specs.declared.Patches.{Patches}
 use Rattle.patches.specs.Code.{Slot, Emission, em, push1, block}
 use Rattle.patches.specs.Code.Slot.{fixed}
-use Rattle.codegen.specs.Fragments.{Fits, alu32-of, emit-steps}
-use Rattle.codegen.proofs.Pieces.{head, tail, step, as-fixed}
+use Rattle.pieces.specs.Fragments.{Fits, alu32-of, emit-steps}
+use Rattle.pieces.proofs.Pieces.{head, tail, step, as-fixed}
 use borrow.Author.Needs.{needs}
 use Rattle.codegen.proofs.access.emit_steps.Statement.{statement}
 use Rattle.codegen.proofs.access.emit_steps.Tie as tie

@@ -1,7 +1,7 @@
 -- The steps, then the comparison.
 use Rattle.codegen.specs.Primitives.{steps-and-cmp}
 use mathlib.Core.Path.{_∙_}
-use Rattle.codegen.proofs.Pieces.{first, second, then}
+use Rattle.pieces.proofs.Pieces.{first, second, then}
 use Rattle.codegen.proofs.access.emit_steps_and_cmp.Statement.{statement}
 use Rattle.codegen.proofs.access.emit_steps_and_cmp.Tie as tie
 

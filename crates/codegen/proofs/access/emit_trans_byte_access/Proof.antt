@@ -1,7 +1,7 @@
 -- R6, the guard, the load, then the steps and the comparison.
 use Rattle.codegen.specs.Primitives.{access-at}
 use mathlib.Core.Path.{_∙_}
-use Rattle.codegen.proofs.Pieces.{first, second, then}
+use Rattle.pieces.proofs.Pieces.{first, second, then}
 use borrow.Author.Needs.{needs}
 use Rattle.codegen.proofs.access.emit_trans_byte_access.Statement.{statement}
 use Rattle.codegen.proofs.access.emit_trans_byte_access.Tie as tie

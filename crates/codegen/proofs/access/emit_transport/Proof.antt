@@ -1,7 +1,7 @@
 -- The byte with the header's length, then five instructions.
-use Rattle.codegen.specs.Fragments.{transport}
+use Rattle.pieces.specs.Fragments.{transport}
 use mathlib.Core.Path.{_∙_}
-use Rattle.codegen.proofs.Pieces.{first, second, head, tail, then, step, one}
+use Rattle.pieces.proofs.Pieces.{first, second, head, tail, then, step, one}
 use borrow.Author.Needs.{needs}
 use Rattle.codegen.proofs.access.emit_transport.Statement.{statement}
 use Rattle.codegen.proofs.access.emit_transport.Tie as tie

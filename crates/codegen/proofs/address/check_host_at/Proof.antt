@@ -1,8 +1,8 @@
 -- The word, then the comparison.
 use Rattle.codegen.specs.Primitives.{check-word-at}
-use Rattle.codegen.specs.Fragments.{fails}
+use Rattle.pieces.specs.Fragments.{fails}
 use mathlib.Core.Path.{_∙_}
-use Rattle.codegen.proofs.Pieces.{first, second, head, then, one}
+use Rattle.pieces.proofs.Pieces.{first, second, head, then, one}
 use borrow.Author.Needs.{needs}
 use Rattle.codegen.proofs.address.check_host_at.Statement.{statement}
 use Rattle.codegen.proofs.address.check_host_at.Tie as tie

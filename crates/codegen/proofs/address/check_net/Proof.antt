@@ -1,8 +1,8 @@
 -- One case a direction.
 use Rattle.codegen.specs.Primitives.{check-addr4}
-use Rattle.codegen.specs.Fragments.{succeeds}
+use Rattle.pieces.specs.Fragments.{succeeds}
 use mathlib.Core.Path.{_∙_}
-use Rattle.codegen.proofs.Pieces.{first, second, head, tail, then, step}
+use Rattle.pieces.proofs.Pieces.{first, second, head, tail, then, step}
 use borrow.Author.Needs.{needs}
 use Rattle.codegen.proofs.address.check_net.Statement.{statement}
 use Rattle.codegen.proofs.address.check_net.Tie as tie

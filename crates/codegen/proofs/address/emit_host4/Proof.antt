@@ -1,7 +1,7 @@
 -- The ethertype, then the words.
 use Rattle.codegen.specs.Primitives.{emit-host4}
 use mathlib.Core.Path.{_∙_}
-use Rattle.codegen.proofs.Pieces.{first, second, then}
+use Rattle.pieces.proofs.Pieces.{first, second, then}
 use borrow.Author.Needs.{needs}
 use Rattle.codegen.proofs.address.emit_host4.Statement.{statement}
 use Rattle.codegen.proofs.address.emit_host4.Tie as tie

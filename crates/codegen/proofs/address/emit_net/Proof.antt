@@ -1,7 +1,7 @@
 -- The ethertype, then the words.
 use Rattle.codegen.specs.Primitives.{emit-net}
 use mathlib.Core.Path.{_∙_}
-use Rattle.codegen.proofs.Pieces.{first, second, then}
+use Rattle.pieces.proofs.Pieces.{first, second, then}
 use borrow.Author.Needs.{needs}
 use Rattle.codegen.proofs.address.emit_net.Statement.{statement}
 use Rattle.codegen.proofs.address.emit_net.Tie as tie

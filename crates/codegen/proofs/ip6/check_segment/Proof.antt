@@ -1,9 +1,9 @@
 -- The load, then the comparison of the whole half or of what the mask leaves.
 use borrow.Author.Tests.{le-leb, lt-leb}
-use Rattle.codegen.specs.Fragments.{led, fails}
+use Rattle.pieces.specs.Fragments.{led, fails}
 use Rattle.codegen.specs.Primitives.{check-segment}
-use Rattle.codegen.proofs.Pieces.{head}
-use Rattle.codegen.proofs.Leading.{fits, first-to, second-to, head-to, tail-to, then-to, step-to, one-to}
+use Rattle.pieces.proofs.Pieces.{head}
+use Rattle.pieces.proofs.Leading.{fits, first-to, second-to, head-to, tail-to, then-to, step-to, one-to}
 use mathlib.Core.Path.{_∙_}
 use borrow.Author.Needs.{needs}
 use Rattle.codegen.proofs.ip6.check_segment.Statement.{statement}

@@ -1,6 +1,6 @@
 -- The ethertype, then the addresses.
 use Rattle.codegen.specs.Primitives.{emit-net6}
-use Rattle.codegen.proofs.Pieces.{first, second, then}
+use Rattle.pieces.proofs.Pieces.{first, second, then}
 use mathlib.Core.Path.{_∙_}
 use Rattle.codegen.proofs.ip6.emit_net6.Statement.{statement}
 use Rattle.codegen.proofs.ip6.emit_net6.Tie as tie

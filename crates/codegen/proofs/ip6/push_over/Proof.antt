@@ -3,7 +3,7 @@ use mathlib.Core.Path.{refl}
 use borrow.Author.Tests.{ne-eqb}
 use Rattle.patches.specs.Code.{block}
 use Rattle.codegen.specs.Primitives.{over}
-use Rattle.codegen.proofs.Pieces.{head, one}
+use Rattle.pieces.proofs.Pieces.{head, one}
 use borrow.Author.Needs.{needs}
 use Rattle.codegen.proofs.ip6.push_over.Statement.{statement}
 use Rattle.codegen.proofs.ip6.push_over.Tie as tie

@@ -1,6 +1,6 @@
 -- Two checks.
 use Rattle.codegen.specs.Primitives.{check-mac}
-use Rattle.codegen.proofs.Leading.{first-to, second-to, then-to}
+use Rattle.pieces.proofs.Leading.{first-to, second-to, then-to}
 use mathlib.Core.Path.{_∙_}
 use borrow.Author.Needs.{needs}
 use Rattle.codegen.proofs.mac.check_mac.Statement.{statement}

@@ -1,8 +1,8 @@
 -- The half, then the jump.
-use Rattle.codegen.specs.Fragments.{fails}
+use Rattle.pieces.specs.Fragments.{fails}
 use Rattle.codegen.specs.Primitives.{check-port}
 use mathlib.Core.Path.{_∙_}
-use Rattle.codegen.proofs.Pieces.{first, second, head, then, one}
+use Rattle.pieces.proofs.Pieces.{first, second, head, then, one}
 use borrow.Author.Needs.{needs}
 use Rattle.codegen.proofs.ports.check_port.Statement.{statement}
 use Rattle.codegen.proofs.ports.check_port.Tie as tie

@@ -1,10 +1,10 @@
 -- TCP or UDP, or one protocol.
 use Rattle.ebpf.specs.Insn.{new}
 use Rattle.patches.specs.Code.{with-off}
-use Rattle.codegen.specs.Fragments.{fails, skips}
+use Rattle.pieces.specs.Fragments.{fails, skips}
 use Rattle.codegen.specs.Primitives.{emit-l4-proto-check}
 use mathlib.Core.Path.{_∙_}
-use Rattle.codegen.proofs.Pieces.{first, second, head, tail, then, step, one}
+use Rattle.pieces.proofs.Pieces.{first, second, head, tail, then, step, one}
 use borrow.Author.Needs.{needs}
 use Rattle.codegen.proofs.ports.emit_l4_proto_check.Statement.{statement}
 use Rattle.codegen.proofs.ports.emit_l4_proto_check.Tie as tie

@@ -1,7 +1,7 @@
 -- The transport header, then the ports.
 use Rattle.codegen.specs.Primitives.{emit-port}
 use mathlib.Core.Path.{_∙_}
-use Rattle.codegen.proofs.Pieces.{first, second, then}
+use Rattle.pieces.proofs.Pieces.{first, second, then}
 use borrow.Author.Needs.{needs}
 use Rattle.codegen.proofs.ports.emit_port.Statement.{statement}
 use Rattle.codegen.proofs.ports.emit_port.Tie as tie

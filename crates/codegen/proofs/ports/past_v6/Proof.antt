@@ -1,5 +1,5 @@
 -- Counted, one case for no protocol and one for the others.
-use Rattle.codegen.specs.Fragments.{past, guard, load, emit-load, fails, skips, check}
+use Rattle.pieces.specs.Fragments.{past, guard, load, emit-load, fails, skips, check}
 use Rattle.codegen.specs.Primitives.{emit-l4-proto-check, prereqs-v6}
 use borrow.Author.Needs.{needs}
 use Rattle.codegen.proofs.ports.past_v6.Statement.{statement}

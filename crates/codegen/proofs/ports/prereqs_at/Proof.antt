@@ -1,9 +1,9 @@
 -- Two blocks, and the jumps between them.
 use Rattle.ebpf.specs.Insn.{new}
 use Rattle.patches.specs.Code.{with-off}
-use Rattle.codegen.specs.Fragments.{fails, skips}
+use Rattle.pieces.specs.Fragments.{fails, skips}
 use mathlib.Core.Path.{_∙_}
-use Rattle.codegen.proofs.Pieces.{first, second, head, tail, then, step}
+use Rattle.pieces.proofs.Pieces.{first, second, head, tail, then, step}
 use borrow.Author.Needs.{needs}
 use Rattle.codegen.proofs.ports.prereqs_at.Statement.{statement}
 use Rattle.codegen.proofs.ports.prereqs_at.Tie as tie

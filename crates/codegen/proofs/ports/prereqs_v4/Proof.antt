@@ -1,7 +1,7 @@
 -- The protocol, R6, the guard.
 use Rattle.codegen.specs.Primitives.{prereqs-v4}
 use mathlib.Core.Path.{_∙_}
-use Rattle.codegen.proofs.Pieces.{first, second, then}
+use Rattle.pieces.proofs.Pieces.{first, second, then}
 use borrow.Author.Needs.{needs}
 use Rattle.codegen.proofs.ports.prereqs_v4.Statement.{statement}
 use Rattle.codegen.proofs.ports.prereqs_v4.Tie as tie

@@ -1,7 +1,7 @@
 -- The protocol, R6, the guard.
 use Rattle.codegen.specs.Primitives.{prereqs-v6}
 use mathlib.Core.Path.{_∙_}
-use Rattle.codegen.proofs.Pieces.{first, second, head, tail, then, step}
+use Rattle.pieces.proofs.Pieces.{first, second, head, tail, then, step}
 use borrow.Author.Needs.{needs}
 use Rattle.codegen.proofs.ports.prereqs_v6.Statement.{statement}
 use Rattle.codegen.proofs.ports.prereqs_v6.Tie as tie

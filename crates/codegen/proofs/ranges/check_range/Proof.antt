@@ -1,7 +1,7 @@
 -- The load, then the two comparisons.
-use Rattle.codegen.specs.Fragments.{fails}
+use Rattle.pieces.specs.Fragments.{fails}
 use Rattle.codegen.specs.Primitives.{check-range}
-use Rattle.codegen.proofs.Leading.{fits, first-to, second-to, head-to, tail-to, then-to, step-to, one-to, loaded}
+use Rattle.pieces.proofs.Leading.{fits, first-to, second-to, head-to, tail-to, then-to, step-to, one-to, loaded}
 use mathlib.Core.Path.{_∙_}
 use borrow.Author.Needs.{needs}
 use Rattle.codegen.proofs.ranges.check_range.Statement.{statement}

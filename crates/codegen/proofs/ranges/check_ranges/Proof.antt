@@ -1,10 +1,10 @@
 -- One case a direction; either way the first failures lead behind the JA.
 use native.Mathlib.Omega.{arith}
 use lib.ListN.{length-append}
-use Rattle.codegen.specs.Fragments.{sides, one-of}
-use Rattle.codegen.proofs.Pieces.{first, second, then}
-use Rattle.codegen.proofs.Sizes.{range-length, settled-length}
-use Rattle.codegen.proofs.Leading.{opens, opened, either-first, either-over, either-second, either}
+use Rattle.pieces.specs.Fragments.{sides, one-of}
+use Rattle.pieces.proofs.Pieces.{first, second, then}
+use Rattle.codegen.proofs.Sizes.{range-length}
+use Rattle.pieces.proofs.Leading.{opens, opened, either-first, either-over, either-second, either, settled-length}
 use mathlib.Core.Path.{_∙_}
 use borrow.Author.Needs.{needs}
 use Rattle.codegen.proofs.ranges.check_ranges.Statement.{statement}

@@ -1,7 +1,7 @@
 -- The transport header, then the ranges.
 use Rattle.codegen.specs.Primitives.{emit-portrange}
 use mathlib.Core.Path.{_∙_}
-use Rattle.codegen.proofs.Pieces.{first, second, then}
+use Rattle.pieces.proofs.Pieces.{first, second, then}
 use Rattle.codegen.proofs.ranges.emit_portrange.Statement.{statement}
 use Rattle.codegen.proofs.ranges.emit_portrange.Tie as tie
 

@@ -2,9 +2,9 @@
 use Rattle.codegen.specs.Primitives.{emit-ether-multicast}
 use Rattle.ebpf.specs.Insn.{new}
 use Rattle.patches.specs.Code.{with-off}
-use Rattle.codegen.specs.Fragments.{skips}
+use Rattle.pieces.specs.Fragments.{skips}
 use mathlib.Core.Path.{_∙_}
-use Rattle.codegen.proofs.Pieces.{first, second, head, tail, then, step, one}
+use Rattle.pieces.proofs.Pieces.{first, second, head, tail, then, step, one}
 use borrow.Author.Needs.{needs}
 use Rattle.codegen.proofs.tags.emit_ether_multicast.Statement.{statement}
 use Rattle.codegen.proofs.tags.emit_ether_multicast.Tie as tie

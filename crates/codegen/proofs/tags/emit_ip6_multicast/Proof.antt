@@ -1,7 +1,7 @@
 -- The ethertype, then a byte.
 use Rattle.codegen.specs.Primitives.{emit-ip6-multicast}
 use mathlib.Core.Path.{_∙_}
-use Rattle.codegen.proofs.Pieces.{first, second, then}
+use Rattle.pieces.proofs.Pieces.{first, second, then}
 use borrow.Author.Needs.{needs}
 use Rattle.codegen.proofs.tags.emit_ip6_multicast.Statement.{statement}
 use Rattle.codegen.proofs.tags.emit_ip6_multicast.Tie as tie

@@ -1,7 +1,7 @@
 -- The ethertype, then the word.
 use Rattle.codegen.specs.Primitives.{emit-ip-broadcast}
 use mathlib.Core.Path.{_∙_}
-use Rattle.codegen.proofs.Pieces.{first, second, then}
+use Rattle.pieces.proofs.Pieces.{first, second, then}
 use borrow.Author.Needs.{needs}
 use Rattle.codegen.proofs.tags.emit_ip_broadcast.Statement.{statement}
 use Rattle.codegen.proofs.tags.emit_ip_broadcast.Tie as tie

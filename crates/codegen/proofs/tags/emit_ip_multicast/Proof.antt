@@ -1,8 +1,8 @@
 -- The ethertype, then the word under its mask.
 use Rattle.codegen.specs.Primitives.{emit-ip-multicast}
-use Rattle.codegen.specs.Fragments.{fails}
+use Rattle.pieces.specs.Fragments.{fails}
 use mathlib.Core.Path.{_∙_}
-use Rattle.codegen.proofs.Pieces.{first, second, head, tail, then, step, one}
+use Rattle.pieces.proofs.Pieces.{first, second, head, tail, then, step, one}
 use borrow.Author.Needs.{needs}
 use Rattle.codegen.proofs.tags.emit_ip_multicast.Statement.{statement}
 use Rattle.codegen.proofs.tags.emit_ip_multicast.Tie as tie

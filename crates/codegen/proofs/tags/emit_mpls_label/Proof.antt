@@ -1,8 +1,8 @@
 -- Nothing, or the label.
 use Rattle.patches.specs.Code.{block}
-use Rattle.codegen.specs.Fragments.{fails}
+use Rattle.pieces.specs.Fragments.{fails}
 use mathlib.Core.Path.{_∙_}
-use Rattle.codegen.proofs.Pieces.{first, second, head, tail, then, step, one}
+use Rattle.pieces.proofs.Pieces.{first, second, head, tail, then, step, one}
 use borrow.Author.Needs.{needs}
 use Rattle.codegen.proofs.tags.emit_mpls_label.Statement.{statement}
 use Rattle.codegen.proofs.tags.emit_mpls_label.Tie as tie

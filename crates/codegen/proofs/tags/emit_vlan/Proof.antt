@@ -1,7 +1,7 @@
 -- The ethertype, then the number.
 use Rattle.codegen.specs.Primitives.{emit-vlan}
 use mathlib.Core.Path.{_∙_}
-use Rattle.codegen.proofs.Pieces.{first, second, then}
+use Rattle.pieces.proofs.Pieces.{first, second, then}
 use borrow.Author.Needs.{needs}
 use Rattle.codegen.proofs.tags.emit_vlan.Statement.{statement}
 use Rattle.codegen.proofs.tags.emit_vlan.Tie as tie

@@ -1,10 +1,10 @@
 -- What an accepted sheet is, and that its L is small.
 use Prim.Native.Nat.{ℕ, zero, suc, _+_, _*_, _/_, _%_, _<_, _≤_}
-use mathlib.Core.Path.{_≡_, refl, sym, ap, _∙_, subst}
-use mathlib.Core.Bool.{Bool, true, false, cond, _&&_, _||_}
+use mathlib.Core.Path.{_≡_, refl, sym, ap, subst}
+use mathlib.Core.Bool.{Bool, true, false, cond, _&&_}
 use mathlib.Core.List.{List, [], _∷_}
 use native.Mathlib.Omega.{arith}
-use borrow.Author.Tests.{ltb-true, ltb-false, eqb-true, le-ltb, eq-eqb}
+use borrow.Author.Tests.{ltb-true, ltb-false, eqb-true}
 use lib.Dec.{eqb, ltb}
 use lib.ListN.{getD, take}
 use Rattle.filter.specs.Bytes.{be2}
@@ -44,6 +44,8 @@ use Rattle.checks.specs.declared.check.Checked.the-variants.{Refused, Go
 use Rattle.checks.specs.Measure.{measured, measureOf}
 use Rattle.checks.specs.declared.measure.Measured.the-variants.{Length}
 use Rattle.tree.specs.Shape.{shapeOf}
+use Rattle.tree.specs.declared.Shape.{Shape}
+use Rattle.tree.specs.declared.Shape.the-variants.{Whole, Broken}
 
 -- the steps that a primitive takes
 stepsOf : Primitive → ℕ
@@ -262,15 +264,21 @@ pub record Accepted (link : LinkType) (steps prims tokens : List ℕ) (a b c : �
   pub near : b ≤ first (farOffset link prims) b 0
   pub short : b ≤ first (shiftAt steps prims) b 0
 
-both-left : (x y : Bool) → x && y ≡ true → x ≡ true
-both-left true y e = refl
-both-left false y e = e
+-- one whole tree, with as many primitives as there are
+pub whole-shape : (x : Shape) (b : ℕ) → oneTree x b ≡ true → x ≡ Whole b
+unfolding oneTree
+whole-shape (Whole n) b e = ap Whole (eqb-true n b e)
+whole-shape Broken b e = let never : _≡_ {A = ℕ} 0 1 = cc in absurd (omega arith)
 
-both-right : (x y : Bool) → x && y ≡ true → y ≡ true
-both-right true y e = e
-both-right false y e = let never : _≡_ {A = ℕ} 0 1 = cc in absurd (omega arith)
+first-true : (x y : Bool) → x && y ≡ true → x ≡ true
+first-true true y e = refl
+first-true false y e = e
 
--- the parts of a sheet are accepted exactly when no refusal is found in them
+pub second-true : (x y : Bool) → x && y ≡ true → y ≡ true
+second-true true y e = e
+second-true false y e = let never : _≡_ {A = ℕ} 0 1 = cc in absurd (omega arith)
+
+-- no refusal is found in the parts of an accepted sheet
 pub good-parts : (link : LinkType) (steps prims tokens : List ℕ) (a b c : ℕ) {x y z : ℕ} → checkParts link steps prims tokens a b c ≡ Good x y z
     → Accepted link steps prims tokens a b c × (x ≡ a) × (y ≡ b) × (z ≡ c)
 unfolding checkParts checkAccesses complete
@@ -289,8 +297,8 @@ good-parts link steps prims tokens a b c {x} {y} {z} =
     go false true false false ep eq er et e = (
       record {
         right = ltb-false _ _ ep;
-        whole = both-left _ _ eq;
-        taken = eqb-true _ _ (both-right (oneTree (shapeOf tokens) b) _ eq);
+        whole = first-true _ _ eq;
+        taken = eqb-true _ _ (second-true (oneTree (shapeOf tokens) b) _ eq);
         near = ltb-false _ _ er;
         short = ltb-false _ _ et;
       },
@@ -298,11 +306,6 @@ good-parts link steps prims tokens a b c {x} {y} {z} =
       cc,
       cc,
     )
-
-pub parts-good : {link : LinkType} {steps prims tokens : List ℕ} {a b c : ℕ} → Accepted link steps prims tokens a b c
-    → checkParts link steps prims tokens a b c ≡ Good a b c
-unfolding checkParts checkAccesses complete
-parts-good g = rw (le-ltb _ _ (g .right), g .whole, eq-eqb _ _ (g .taken), le-ltb _ _ (g .near), le-ltb _ _ (g .short))
 
 -- none of refusals 1 to 6
 pub record Taken (s : List ℕ) (link a b c : ℕ) : Type 0 where
@@ -329,10 +332,6 @@ good s link {a} {b} {c} = on-link (ltb 1 link) refl
     on-link : (t : Bool) → ltb 1 link ≡ t → cond t (Refused 1 0) (checkSections (linkOf link) s (sectionsOf s)) ≡ Good a b c → Taken s link a b c
     on-link true h e = let never : _≡_ {A = ℕ} 0 1 = cc in absurd (omega arith)
     on-link false h e = on-sections (sectionsOf s) (ltb-false 1 link h) refl e
-
-pub taken-good : {s : List ℕ} {link a b c : ℕ} → Taken s link a b c → checkOf s link ≡ Good a b c
-unfolding checkOf checkSections
-taken-good g = rw (le-ltb _ _ (g .low), g .found) (parts-good (g .parts))
 
 -- an accepted sheet's L
 pub good-length : (s : List ℕ) (link : ℕ) {a b c : ℕ} → checkOf s link ≡ Good a b c

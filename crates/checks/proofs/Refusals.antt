@@ -1,13 +1,11 @@
 -- Laws of the first bad step: the loop over a byte access's steps.
-use Prim.Native.Nat.{ℕ, zero, suc, _+_, _-_, _<_, _≤_}
-use mathlib.Core.Path.{_≡_, refl, sym, ap, _∙_}
+use Prim.Native.Nat.{ℕ, suc, _+_, _-_, _<_, _≤_}
+use mathlib.Core.Path.{_≡_}
 use mathlib.Core.List.{List}
 use native.Mathlib.Omega.{arith}
-use borrow.Author.Tests.{eq-eqb, ne-eqb}
+use borrow.Author.Tests.{ne-eqb}
 use Rattle.checks.specs.Refusal.{stepRefusal, stepsRefusal}
-
-suc-of : (i n : ℕ) → i < n → n - i ≡ suc (n - (i + 1))
-suc-of i n h = omega arith
+use Rattle.filter.proofs.Firsts.{suc-of}
 
 pub refusal-all : (steps : List ℕ) (n from : ℕ) → stepsRefusal steps n from ≡ stepsRefusal steps (n - 0) (from + 0)
 refusal-all steps n from =

@@ -1,17 +1,16 @@
 -- L counts what comes out: the code of a primitive that is not refused has as many instructions as its share of L.
 use Prim.Native.Nat.{ℕ, zero, suc, _+_, _-_, _*_, _/_, _%_, _<_, _≤_}
-use mathlib.Core.Path.{_≡_, refl, sym, ap, _∙_}
-use mathlib.Core.List.{List, [], _∷_, _++_}
+use mathlib.Core.Path.{_≡_, refl, ap, _∙_}
+use mathlib.Core.List.{List, [], _++_}
 use mathlib.Core.Bool.{Bool, true, false, cond}
 use native.Mathlib.Omega.{arith}
-use borrow.Author.Tests.{le-leb, lt-leb, lt-ltb, le-ltb, leb-true, leb-false, ltb-true, ltb-false, eqb-true, eqb-false}
+use borrow.Author.Tests.{le-leb, lt-leb, leb-true, leb-false, ltb-true, ltb-false, eqb-true, eqb-false}
 use native.Mathlib.Nat.{le-refl, sub-zero}
 use lib.ListN.{length, length-append}
 use lib.Dec.{eqb, leb, ltb}
 use Rattle.patches.specs.Code.{Slot}
-use Rattle.patches.specs.Code.Slot.{fixed, success, failure}
 use Rattle.pieces.proofs.Leading.{settled-length}
-use Rattle.pieces.specs.Fragments.{settled, one-of, sides, guard, load, size-bytes, emit-load, emit-steps, transport, class-of, fails, skips, succeeds, check, emit-cmp, emit-ethertype, emit-ip4-l4, emit-ip6-l4, emit-dual-l4}
+use Rattle.pieces.specs.Fragments.{one-of, sides, guard, load, emit-load, emit-steps, transport, fails, skips, succeeds, check, emit-cmp, emit-ethertype, emit-ip4-l4, emit-ip6-l4, emit-dual-l4}
 use Rattle.codegen.specs.Primitives.{check-word-at, check-addr4, emit-host4, emit-net, check-segment, check-net6, emit-net6, emit-l4-proto-check, prereqs-v6, prereqs-v4, emit-port-prereqs, check-port, check-ports, emit-port, check-range, emit-portrange, check-mac, emit-ether-host, emit-ether-multicast, emit-ip-broadcast, emit-ip-multicast, emit-ip6-multicast, emit-vlan, emit-mpls, emit-pppoe-session, emit-len, emit-proto, steps-and-cmp, access-at, access-rhs, emit-byte-access, emit-primitive, mirrored}
 use Rattle.checks.specs.Length as count
 use Rattle.checks.specs.Refusal.{refusal, onRaw, stepsRefusal, accessRefusal, rhsRefusal}
@@ -66,12 +65,6 @@ load-length Word base off = refl
 byte-load : count.swapSize Byte ≡ 1
 unfolding count.swapSize
 byte-load = refl
-
-guarded-length : (size : AccessSize) (off : ℕ) → length (emit-load size off) ≡ 3 + count.swapSize size
-unfolding emit-load guard load count.swapSize
-guarded-length Byte off = refl
-guarded-length Half off = refl
-guarded-length Word off = refl
 
 -- What an IPv6 address costs of which r bits are left under the prefix: six for each half, and one for the half that is covered in part.
 abbrev share : ℕ → ℕ

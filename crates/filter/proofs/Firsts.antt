@@ -10,7 +10,7 @@ use borrow.Author.Tests.{ltb-true, ltb-false}
 use lib.Dec.{ltb}
 use Rattle.filter.specs.First.{first, any}
 
-suc-of : (i n : ℕ) → i < n → n - i ≡ suc (n - (i + 1))
+pub suc-of : (i n : ℕ) → i < n → n - i ≡ suc (n - (i + 1))
 suc-of i n h = omega arith
 
 pub first-all : (f : ℕ → Bool) (n : ℕ) → first f n 0 ≡ first f (n - 0) 0

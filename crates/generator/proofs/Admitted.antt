@@ -16,16 +16,14 @@ use Rattle.filter.specs.declared.ast.Primitive.{Primitive}
 use Rattle.filter.proofs.Sheets.{sized}
 use Rattle.tree.specs.Tokens.{count}
 use Rattle.tree.specs.Shape.{shapeOf}
-use Rattle.tree.specs.declared.Shape.{Shape}
-use Rattle.tree.specs.declared.Shape.the-variants.{Whole, Broken}
-use Rattle.checks.specs.Check.{stepsBefore, oneTree, checkOf}
+use Rattle.checks.specs.Check.{stepsBefore, checkOf}
 use Rattle.checks.specs.Length as count
 use Rattle.checks.specs.Measure.{measured, measureOf, roomed, admitOf}
 use Rattle.checks.specs.Refusal.{refusal}
 use Rattle.checks.specs.declared.check.Checked.{Checked}
 use Rattle.checks.specs.declared.check.Checked.the-variants as checked
 use Rattle.checks.specs.declared.measure.Measured.the-variants.{Refused, Length}
-use Rattle.checks.proofs.Bounds.{good, good-length}
+use Rattle.checks.proofs.Bounds.{good, good-length, whole-shape}
 use Rattle.codegen.specs.Primitives.{emit-primitive}
 use Rattle.codegen.proofs.Sizes.{primitive-length}
 use Rattle.patches.specs.Machine.{sizeOf, sizes}
@@ -55,11 +53,6 @@ sizes-sum mode link steps prims zero k =
 sizes-sum mode link steps prims (suc n) k =
     let e : k + suc n ≡ suc k + n = omega arith in
     rw e (omega (arith, sizes-sum mode link steps prims n (suc k), size-of mode link steps (stepsBefore prims k) (decodeAt prims (24 * k))))
-
-whole-is : (x : Shape) (b : ℕ) → oneTree x b ≡ true → x ≡ Whole b
-unfolding oneTree
-whole-is (Whole n) b e = ap Whole (eqb-true n b e)
-whole-is Broken b e = let never : _≡_ {A = ℕ} 0 1 = cc in absurd (omega arith)
 
 pub record Admitted (s : List ℕ) (link output work a b c l : ℕ) : Type 0 where
   pub checked : checkOf s link ≡ checked.Good a b c
@@ -112,7 +105,7 @@ module _ {s : List ℕ} {link output work a b c l : ℕ} (v : Admitted s link ou
   unfolding count.programLength count.sizesOf
   sheet-sized mode ha hb hc = record {
     leaves = b;
-    one-tree = whole-is (shapeOf (tokensPart s a b c)) b (good s link (v .checked) .parts .whole);
+    one-tree = whole-shape (shapeOf (tokensPart s a b c)) b (good s link (v .checked) .parts .whole);
     exact =
         let t = take-all c (tokensPart s a b c) (omega (arith, tokens-length)) in
         let none : count.sizesOf (linkOf link) (stepsPart s a) (primsPart s a b) 0 ≡ 0 = refl in

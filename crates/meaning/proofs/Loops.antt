@@ -14,9 +14,7 @@ use Rattle.filter.specs.declared.ast.Ipv6Addr.{Ipv6Addr}
 use Rattle.meaning.specs.Frame.{passes}
 use Rattle.meaning.specs.Meaning.{arith as step-of, stepped, halfMask, halfOf, halves}
 use Rattle.meaning.proofs.Numbers.{flag}
-
-suc-of : (i n : ℕ) → i < n → n - i ≡ suc (n - (i + 1))
-suc-of i n h = omega arith
+use Rattle.filter.proofs.Firsts.{suc-of}
 
 -- k of n steps from step j on are done, and the value is w
 module _ (steps : List ℕ) (n j : ℕ) where

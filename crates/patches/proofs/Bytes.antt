@@ -15,12 +15,8 @@ use Rattle.patches.specs.Code.{Slot, Emission, em, push1, insn, outs, pu
 use Rattle.patches.specs.Code.Slot.{fixed}
 use Rattle.patches.specs.declared.Patches.{Patches}
 use Rattle.program.specs.Program.{codeOf}
+use Rattle.program.proofs.Bytes.{code-length}
 use Rattle.patches.specs.Listing.{setOff, resolvedL, listed, Begins}
-
-pub length-code : (is : List Insn) → length (codeOf is) ≡ 8 * length is
-unfolding codeOf to-le-bytes
-length-code [] = refl
-length-code (i ∷ is) = let e = length-code is in omega (arith, e)
 
 -- One instruction further on.
 eight : (n k : ℕ) → 8 * suc n + k ≡ suc (suc (suc (suc (suc (suc (suc (suc (8 * n + k))))))))
@@ -42,7 +38,7 @@ put-is i is o h e =
     ∙ ap (λ x. x ++ drop (8 * length is + 8) o) (sym (code-snoc is i)))
 
 pub put-begins : (i : Insn) (is : List Insn) (o : List ℕ) → 8 * length is + 8 ≤ length o → Begins o is → Begins (putInsn o (length is) i) (is ++ (i ∷ []))
-put-begins i is o h b = record { rest = drop (8 * length is + 8) o; eq = put-is i is o h (ap (take (8 * length is)) (b .eq) ∙ take-at (codeOf is) (b .rest) (8 * length is) (length-code is)) }
+put-begins i is o h b = record { rest = drop (8 * length is + 8) o; eq = put-is i is o h (ap (take (8 * length is)) (b .eq) ∙ take-at (codeOf is) (b .rest) (8 * length is) (code-length is)) }
 
 begin-cons : (j : Insn) (o : List ℕ) (is : List Insn) → Begins o is → Begins (codeOf (j ∷ []) ++ o) (j ∷ is)
 unfolding codeOf to-le-bytes

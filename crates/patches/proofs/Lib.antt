@@ -13,5 +13,4 @@ pub mod Bytes
 pub mod Program
 pub mod Exact
 pub mod WholeTrees
-pub mod ReadBack
 pub mod Examples

@@ -46,7 +46,7 @@ lead-append end p (x ∷ xs) ys =
     let e : suc p + length xs ≡ p + suc (length xs) = omega arith in
     ap (λ (zs : List Slot). led end p x ∷ zs) (lead-append end (suc p) xs ys ∙ ap (λ (q : ℕ). lead end (suc p) xs ++ lead end q ys) e)
 
-past-is : (xs : List Slot) (k : ℕ) → past xs k ≡ length xs + k
+pub past-is : (xs : List Slot) (k : ℕ) → past xs k ≡ length xs + k
 unfolding past
 past-is [] k = omega arith
 past-is (x ∷ xs) k = ap suc (past-is xs k) ∙ omega arith

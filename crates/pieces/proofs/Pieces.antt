@@ -1,13 +1,13 @@
 -- Pieces of code one after the other: the room for each, and what they come to together.
-use Prim.Native.Nat.{ℕ, suc, _+_, _%_, _^_, _<_}
-use mathlib.Core.Path.{_≡_, refl, sym, ap, _∙_}
+use Prim.Native.Nat.{ℕ, _+_, _%_, _^_}
+use mathlib.Core.Path.{_≡_, sym, ap, _∙_}
 use mathlib.Core.List.{List, [], _∷_, _++_}
 use native.Mathlib.Omega.{arith}
-use lib.ListN.{length, length-append}
+use lib.ListN.{length-append}
 use Rattle.ebpf.specs.declared.insn.Insn.{Insn}
 use Rattle.patches.specs.declared.Patches.{Patches}
 use Rattle.patches.specs.Code.{Slot, Emission, Room, em, push1, block}
-use Rattle.patches.specs.Code.Slot.{fixed, success, failure}
+use Rattle.patches.specs.Code.Slot.{fixed}
 use Rattle.patches.proofs.Blocks.{block-append, pos-of}
 use Rattle.filter.specs.declared.ast.AccessSize.{AccessSize}
 use Rattle.filter.specs.declared.ast.AccessSize.the-variants.{Byte, Half, Word}
@@ -47,12 +47,6 @@ one x e e1 h = h
 -- An instruction by what its constructor promises.
 pub as-fixed : (i j : Insn) (e e1 : Emission) → i ≡ j → e1 ≡ push1 (fixed i) e → e1 ≡ push1 (fixed j) e
 as-fixed i j e e1 h k = k ∙ ap (λ (x : Insn). push1 (fixed x) e) h
-
-pub as-success : (i j : Insn) (e e1 : Emission) → i ≡ j → e1 ≡ push1 (success i) e → e1 ≡ push1 (success j) e
-as-success i j e e1 h k = k ∙ ap (λ (x : Insn). push1 (success x) e) h
-
-pub as-failure : (i j : Insn) (e e1 : Emission) → i ≡ j → e1 ≡ push1 (failure i) e → e1 ≡ push1 (failure j) e
-as-failure i j e e1 h k = k ∙ ap (λ (x : Insn). push1 (failure x) e) h
 
 -- A load keeps 32 bits of its offset, so that a sum of offsets may wrap.
 pub load-wraps : (size : AccessSize) (n : ℕ) → emit-load size (n % 2 ^ 32) ≡ emit-load size n

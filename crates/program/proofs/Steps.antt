@@ -3,13 +3,13 @@
 use Prim.Native.Nat.{ℕ, suc, _+_, _-_, _%_, _^_, _<_, _≤_}
 use mathlib.Core.Path.{_≡_, refl, sym, _∙_}
 use mathlib.Core.Bool.{Bool, true, false}
-use mathlib.Core.List.{List, [], _∷_}
+use mathlib.Core.List.{List, _∷_}
 use native.Mathlib.Omega.{arith}
 use native.Mathlib.Nat.{mod-eq-of-lt}
 use borrow.Author.Tests.{lt-ltb, le-leb, ltb-true, ltb-false}
 use lib.Dec.{ltb}
 use lib.ListN.{length}
-use Rattle.ebpf.specs.Opcode.{ADD, SUB, MOV, JGT, JSET, WORD}
+use Rattle.ebpf.specs.Opcode.{ADD, SUB, MOV, JGT, WORD}
 use Rattle.ebpf.specs.Insn.{alu64-reg, alu64-imm, alu32-imm, to-be, ldx, jump-imm, jump-reg, jump-always, exit-insn}
 use Rattle.ebpf.specs.Alu.{sext16, sext32, alu32, alu64, swapped, compares}
 use Rattle.ebpf.specs.Form.{formOf}
@@ -20,11 +20,11 @@ use Rattle.ebpf.specs.declared.insn.Insn.{Insn}
 use Rattle.ebpf.specs.declared.regs.Regs.{Regs}
 use Rattle.ebpf.specs.declared.act.Act.the-variants.{Writes, Jumps, Falls}
 use Rattle.program.specs.Program.{execs}
-use Rattle.program.specs.Kinds.{Class, Comparison, jset, Arithmetic, Size, Bits, Takes}
+use Rattle.program.specs.Kinds.{Class, Comparison, Arithmetic, Size, Bits, Takes}
 use Rattle.program.specs.Ends.{Ends, Place, tested}
 use Rattle.program.proofs.Forms.{form-mov, form-add, form-sub, form-mov-imm, form-add-imm, form-arithmetic, form-swap}
 use Rattle.program.proofs.Forms.{form-context, form-load, form-branch, form-jgt, form-ja, form-exit}
-use Rattle.program.proofs.Values.{tested-taken, tested-jset}
+use Rattle.program.proofs.Values.{tested-taken}
 
 module _ {frame : List ℕ} {start v : ℕ} {rest : List Insn} {r : Regs} where
   -- What an instruction can do, and then the rest: write a register, jump, fall through.
@@ -145,15 +145,6 @@ module _ {frame : List ℕ} {start v : ℕ} {rest : List Insn} {r : Regs} where
   on-compare {operation = operation} {x = x} imm c o d k l h h′ =
       let e = sym (tested-taken operation x imm c k l) in
       on-jump-imm imm c o d (λ t. h (e ∙ t)) (λ t. h′ (e ∙ t))
-
-  -- A test of common bits takes every constant.
-  pub on-jset : {class dst x off : ℕ} {after : ℕ → Regs} (imm : ℕ) → Class class → Place r dst x true after → x < 2 ^ 32 → imm < 2 ^ 32
-      → (compares JSET x imm ≡ true → Ends frame start v off rest r)
-      → (compares JSET x imm ≡ false → Ends frame start v 0 rest r)
-      → Ends frame start v 0 (jump-imm class JSET dst imm off ∷ rest) r
-  on-jset {x = x} imm c d l k h h′ =
-      let e = sym (tested-jset x imm c l k) in
-      on-jump-imm imm c jset d (λ t. h (e ∙ t)) (λ t. h′ (e ∙ t))
 
   pub on-jgt : {dst src x y off : ℕ} {after after′ : ℕ → Regs} → Place r dst x true after → Place r src y true after′
       → (y < x → Ends frame start v off rest r) → (x ≤ y → Ends frame start v 0 rest r)

@@ -14,11 +14,10 @@ use Rattle.patches.specs.Whole as whole
 use Rattle.patches.specs.Listing.{resolvedL, listed, ResL, andDoneL, orDoneL}
 use Rattle.patches.specs.Listing.ResL.{okL}
 use Rattle.pieces.specs.Fragments.{past, settled, one-of}
-use Rattle.pieces.proofs.Leading.{settled-length}
 use Rattle.sound.specs.Filled.{filled}
 use Rattle.sound.specs.Trees.{landed, swapped, both-of, none-of, epilogue}
 use Rattle.sound.specs.Fitting.{SuccessNear, FailureNear}
-use Rattle.sound.proofs.Filled.{past-length}
+use Rattle.pieces.proofs.Leading.{settled-length, past-is}
 use Rattle.sound.proofs.Trees.{past-landed}
 use Rattle.sound.proofs.ProgramLength.{length-landed, length-swapped}
 use Rattle.sound.proofs.PatchLists.{insns, listed-insns, insns-append, length-insns, insns-swapped, insns-filled}
@@ -96,10 +95,10 @@ module _ (is : List Insn) (xs : List Slot) where
   end-is = omega (arith, length-append is (insns xs), length-insns xs)
 
   end-past : end is xs ≡ length is + past xs 0
-  end-past = omega (arith, end-is, past-length xs 0)
+  end-past = omega (arith, end-is, past-is xs 0)
 
   further-past : (k : ℕ) → end is xs + k ≡ length is + past xs k
-  further-past k = omega (arith, end-is, past-length xs k)
+  further-past k = omega (arith, end-is, past-is xs k)
 
   landed-end : end is (landed 0 xs) ≡ length is + length xs
   landed-end = omega (arith, length-append is (insns (landed 0 xs)), length-insns (landed 0 xs), length-landed 0 xs)

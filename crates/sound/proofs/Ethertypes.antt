@@ -1,5 +1,5 @@
 -- The ethertype, and the protocol behind it: on IPv4, on IPv6, and on either.
-use Prim.Native.Nat.{ℕ, _+_, _<_, _≤_}
+use Prim.Native.Nat.{ℕ, _+_, _<_}
 use mathlib.Core.Path.{_≡_, refl, sym, _∙_}
 use mathlib.Core.Bool.{Bool, true, false, cond, _&&_, _||_, true≢false}
 use mathlib.Core.List.{List}
@@ -21,11 +21,7 @@ use Rattle.sound.proofs.Pieces.{both, no-code, decides, forgets, ignore
 use Rattle.sound.proofs.Loads.{number-low}
 use Rattle.sound.proofs.Compares.{takes-always, reads-equal, fails-unless-equal, two-ways}
 use Rattle.sound.proofs.Fields.{field, checks}
-
-pub net-low : (link : LinkType) → netOffset link ≤ 14
-unfolding netOffset
-net-low Ethernet = omega arith
-net-low RawIp = omega arith
+use Rattle.codegen.proofs.Halves.{net-low}
 
 -- Two different numbers are not both the same number.
 pub not-both : (k k′ x : ℕ) → eqb k′ k ≡ false → eqb k x ≡ true → eqb k′ x ≡ false

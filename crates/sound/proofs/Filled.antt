@@ -1,9 +1,7 @@
 -- Pieces one after the other: where their jumps lead, and how a piece is jumped over.
-use Prim.Native.Nat.{ℕ, suc, _+_}
+use Prim.Native.Nat.{ℕ, suc}
 use mathlib.Core.Path.{_≡_, refl, ap}
 use mathlib.Core.List.{List, [], _∷_, _++_, append-assoc}
-use native.Mathlib.Omega.{arith}
-use lib.ListN.{length}
 use Rattle.ebpf.specs.Insn.{new, jump-imm, jump-reg, jump-always}
 use Rattle.ebpf.specs.declared.insn.Insn.{Insn}
 use Rattle.ebpf.specs.declared.regs.Regs.{Regs}
@@ -13,11 +11,6 @@ use Rattle.pieces.specs.Fragments.{past, settled}
 use Rattle.program.specs.Ends.{Ends}
 use Rattle.program.proofs.Steps.{on-skip}
 use Rattle.sound.specs.Filled.{filled}
-
-pub past-length : (xs : List Slot) (k : ℕ) → past xs k ≡ length xs + k
-unfolding past
-past-length [] k = omega arith
-past-length (x ∷ xs) k = let e = past-length xs k in omega arith
 
 pub past-append : (xs ys : List Slot) (k : ℕ) → past (xs ++ ys) k ≡ past xs (past ys k)
 unfolding past

@@ -47,7 +47,7 @@ use Rattle.meaning.specs.Meaning.{halfOf}
 use Rattle.sound.specs.Fine.{FineProto, FineId, FineLabel, FineRhs, Fine}
 use Rattle.sound.specs.Fitting.{FitSlots, no-slots}
 use Rattle.sound.proofs.Filled.{past-append}
-use Rattle.sound.proofs.Ethertypes.{net-low}
+use Rattle.codegen.proofs.Halves.{net-low}
 use Rattle.sound.proofs.Nets6.{half-low, mask-low}
 use Rattle.sound.proofs.Accesses.{operand-low, near-offset}
 use Rattle.sound.proofs.Fitting.{fixed-fits, success-fits, failure-fits, append-fits, one-of-fits, short-near}

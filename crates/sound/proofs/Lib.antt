@@ -21,10 +21,8 @@ pub mod FittingPrimitives
 pub mod ProgramLength
 pub mod Emitted
 pub mod Listed
-pub mod ShortPrograms
 pub mod Decoded
 pub mod Checked
 pub mod Sheets
 pub mod Accepted
 pub mod Demand3
-pub mod Examples

@@ -213,14 +213,3 @@ module _ (tpl : ℕ → Tpl) (prim : ℕ → List Slot) (t : Tree) where
         go : (r : CompL) → Makes r → r ≡ madeL (program (treeCode prim t 0))
         go r (refuses f) = absurd (f (λ i l l′. coded i (omega arith)) n)
         go r (makes c n) = refl
-
--- The code of a primitive; no code, where it is refused.
-abbrev pub slotsOf : Tpl → List Slot
-slotsOf (code xs) = xs
-slotsOf (refused c) = []
-
--- THEOREM: where a program is made, no primitive is refused.
-pub none-refused : (tpl : ℕ → Tpl) (t : Tree) (is : List Insn) → compileL tpl t ≡ madeL is → (i : ℕ) → i < leaves t → (c : ℕ) → tpl i ≡ refused c → ⊥
-none-refused tpl t is e i l c h =
-    let m = made-by-tree tpl (λ i. slotsOf (tpl i)) t (λ i l xs e. sym (ap slotsOf e)) is e in
-    refused-coded (sym h ∙ m .2 i l)

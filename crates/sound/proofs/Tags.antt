@@ -41,7 +41,8 @@ use Rattle.sound.proofs.Pieces.{both, no-code, decides, forgets}
 use Rattle.sound.proofs.Loads.{number-low}
 use Rattle.sound.proofs.Compares.{takes-always, reads, reads-equal, compares-with, equal-either}
 use Rattle.sound.proofs.Fields.{computes, field, checks}
-use Rattle.sound.proofs.Ethertypes.{net-low, not-on-raw, ethertype-means, is-ip}
+use Rattle.codegen.proofs.Halves.{net-low}
+use Rattle.sound.proofs.Ethertypes.{not-on-raw, ethertype-means, is-ip}
 use Rattle.sound.proofs.Addresses.{masks, changed-field}
 
 -- The lowest bit is set or not.

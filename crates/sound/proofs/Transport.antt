@@ -34,12 +34,14 @@ use Rattle.program.proofs.Steps.{on-mov, on-add, on-add-imm, on-arithmetic}
 use Rattle.sound.specs.Filled.{filled}
 use Rattle.sound.specs.Piece.{Known, knows, nothing, falls, Piece, Tests}
 use Rattle.sound.specs.Transport.{Header}
-use Rattle.sound.proofs.Bools.{or-false, and-true, and-assoc, second-true}
+use Rattle.checks.proofs.Bounds.{second-true}
+use Rattle.sound.proofs.Bools.{or-false, and-true, and-assoc}
 use Rattle.sound.proofs.Pieces.{both, decides, forgets, forgets-on-failure, ignores}
 use Rattle.sound.proofs.Loads.{loads, guards, number1-low, number-low}
 use Rattle.sound.proofs.Compares.{takes-always, reads-equal, fails-unless-equal, equal-either, two-ways}
 use Rattle.sound.proofs.Fields.{field, checks}
-use Rattle.sound.proofs.Ethertypes.{net-low, not-both}
+use Rattle.codegen.proofs.Halves.{net-low}
+use Rattle.sound.proofs.Ethertypes.{not-both}
 
 -- "four times the low four bits".
 header-length : (x : ℕ) → alu32 LSH (alu32 AND x 0x0f) 2 ≡ 4 * (x % 16)

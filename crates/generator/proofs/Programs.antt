@@ -17,15 +17,15 @@ use Rattle.patches.specs.Whole.{prologue, finalOf, compiled, ended}
 use Rattle.patches.proofs.Blocks.{out-block}
 use Rattle.patches.proofs.Unchanged.{from-outs}
 use Rattle.generator.specs.declared.Compiled.the-variants.{Refused}
-use Rattle.generator.specs.Compile.{start, WalkOk, TryOk}
+use Rattle.generator.specs.Compile.{unwritten, WalkOk, TryOk}
 
-module _ (o w o1 w1 : List ℕ) (x : Patches) (e : em o1 w1 x ≡ block prologue (em o w start)) where
+module _ (o w o1 w1 : List ℕ) (x : Patches) (e : em o1 w1 x ≡ block prologue (em o w unwritten)) where
   pub start-work : w1 ≡ w
   unfolding block push1 prologue
   start-work = ap (λ (v : Emission). v .work) e
 
   start-out : o1 ≡ outs prologue 0 o
-  start-out = ap (λ (v : Emission). v .out) e ∙ out-block prologue (em o w start)
+  start-out = ap (λ (v : Emission). v .out) e ∙ out-block prologue (em o w unwritten)
 
   pub start-same : (l : ℕ) → 2 ≤ l → SameFrom (8 * l) o o1
   unfolding prologue

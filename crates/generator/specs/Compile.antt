@@ -62,8 +62,8 @@ workAfter (early number place) work = work
 workAfter (late l c x) work = zeroed (l + 8 * c) work
 
 -- Nothing is written.
-abbrev pub start : Patches
-start = record { pos = 0; success = empty; failure = empty }
+abbrev pub unwritten : Patches
+unwritten = record { pos = 0; success = empty; failure = empty }
 
 -- The sections of a sheet past refusal 8: one whole tree of so many primitives, and their L.
 pub record Sized (mode : ℕ) (link : LinkType) (steps prims tokens : List ℕ) (l : ℕ) : Type 0 where

@@ -35,7 +35,7 @@ ghost use Rattle.patches.specs.Whole.{prologue, epilogue, compiled, ended};
 ghost use Rattle.tree.specs.Tree.{treeOf};
 ghost use Rattle.pieces.specs.Fragments.{Fits};
 ghost use Rattle.generator.specs.Template.{templateOf, template};
-ghost use Rattle.generator.specs.Compile.{start, WalkOk, TryOk, Sized, outcomeOf, answerOf, outputAfter, workAfter};
+ghost use Rattle.generator.specs.Compile.{unwritten, WalkOk, TryOk, Sized, outcomeOf, answerOf, outputAfter, workAfter};
 ghost use Rattle.generator.specs.Compile.Outcome.{late};
 
 // A refusal of document 01 with its place, or the number of the program's instructions.
@@ -145,7 +145,7 @@ fn emit_expr(
 
 // `emit_prologue`: `data` into R2, `data_end` into R3.
 fn emit_prologue(out: &mut [u8], work: &mut [u32]) -> Patches
-    ensures { λ r. ⌜ em (now (out .exit)) (now (work .exit)) r ≡ block prologue (em (now (out .entry)) (now (work .entry)) start) ⌝ }
+    ensures { λ r. ⌜ em (now (out .exit)) (now (work .exit)) r ≡ block prologue (em (now (out .entry)) (now (work .entry)) unwritten) ⌝ }
 {
     let none = PatchList { head: 0, tail: 0 };
     let first = Patches {

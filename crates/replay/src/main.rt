@@ -4,6 +4,7 @@
 //   S link(1) mode(1) sheet-length(4) sheet: the refusal and its place, or 0, the sheet's three counts and L.
 //   A output(8) work(8) link(1) mode(1) sheet-length(4) sheet: the same, with refusals 7 and 8 for lent places of these sizes.
 //   E link(1) sheet-length(4) sheet frame-length(4) frame: the refusal and its place, or 0 and whether the expression holds.
+//   L length(4) bytes: the listing program's lines, for these bytes as its input.
 //   C link(1) mode(1) output-bytes(4) work-numbers(4) sheet-length(4) sheet: the listing program's lines, for lent places of
 //     these sizes; output to 1 MiB, work to 1 Mi numbers.
 // A case that is cut, has another tag or is longer than its buffers ends the run with a line that says which case it is.
@@ -17,6 +18,7 @@ use libc::STDIN_FILENO;
 use libc::STDOUT_FILENO;
 use meaning::evaluate::Verdict;
 use meaning::evaluate::evaluate;
+use report::list;
 use report::report;
 ghost use Prim.Native.Nat.{_<_, _^_};
 ghost use lib.ListN.{length};
@@ -244,6 +246,17 @@ fn compile_case(sheet: &mut [u8], output: &mut [u8], work: &mut [u32]) -> Next {
     Next::More
 }
 
+fn listing_case(bytes: &mut [u8], output: &mut [u8], work: &mut [u32]) -> Next {
+    let Part::Bytes(n) = read_part(bytes) else {
+        return Next::Broken;
+    };
+    if output.len() < 65536 || work.len() < 16384 {
+        return Next::Broken;
+    }
+    list(&bytes[..n], &mut output[..65536], &mut work[..16384]);
+    Next::More
+}
+
 fn next_case(bytes: &mut [u8], frame: &mut [u8], output: &mut [u8], work: &mut [u32]) -> Next {
     let mut tag = [0u8; 1];
     if io::read_full(STDIN_FILENO, &mut tag) < 1 {
@@ -256,6 +269,7 @@ fn next_case(bytes: &mut [u8], frame: &mut [u8], output: &mut [u8], work: &mut [
         b'A' => admit_case(bytes),
         b'E' => evaluate_case(bytes, frame),
         b'C' => compile_case(bytes, output, work),
+        b'L' => listing_case(bytes, output, work),
         _ => Next::Broken,
     }
 }

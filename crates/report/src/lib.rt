@@ -10,6 +10,7 @@ ghost use mathlib.Core.Path.{_≡_};
 ghost use Prim.Native.Nat.{_*_, _<_, _≤_};
 ghost use lib.ListN.{length};
 ghost use Rattle.generator.specs.Compile.{outcomeOf, outputAfter, workAfter};
+ghost use Rattle.report.specs.Listing.{listed};
 
 fn write(text: &[u8]) {
     io::write_all(STDOUT_FILENO, text);
@@ -135,4 +136,30 @@ pub fn report(sheet: &[u8], link: u8, mode: u8, output: &mut [u8], work: &mut [u
         }
         Compiled::Program { length } => print_program(output, length),
     }
+}
+
+// Document 01's listing program, once its input is read: link byte, mode byte, sheet.
+pub fn list(input: &[u8], output: &mut [u8], work: &mut [u32])
+    ensures { λ r. ⌜ now (output .exit) ≡ outputAfter (listed (now (input .entry)) (length (now (output .entry))) (length (now (work .entry)))) (now (output .entry)) ⌝ }
+    ensures { λ r. ⌜ now (work .exit) ≡ workAfter (listed (now (input .entry)) (length (now (output .entry))) (length (now (work .entry)))) (now (work .entry)) ⌝ }
+{
+    if input.len() < 2 {
+        print_line(1, 0);
+        return;
+    }
+    let link = input[0];
+    let mode = input[1];
+    if 1 < link {
+        print_line(1, 0);
+        return;
+    }
+    if 1 < mode {
+        print_line(1, 0);
+        return;
+    }
+    if 65538 < input.len() {
+        print_line(2, 0);
+        return;
+    }
+    report(&input[2..], link, mode, output, work);
 }

@@ -3,7 +3,7 @@ use native.Mathlib.Omega.{arith}
 use Rattle.patches.specs.Whole.{prologue}
 use Rattle.pieces.specs.Fragments.{Fits}
 use Rattle.pieces.proofs.Pieces.{head, tail, step, one}
-use Rattle.generator.specs.Compile.{start}
+use Rattle.generator.specs.Compile.{unwritten}
 use borrow.Author.Needs.{needs}
 use Rattle.generator.proofs.emit_prologue.Statement.{statement}
 use Rattle.generator.proofs.emit_prologue.Tie as tie
@@ -20,7 +20,7 @@ ldx-w-requires-2 c κs = search needs
 push-requires-2 : tie.Need-push-requires-2
 unfolding prologue
 push-requires-2 c κs =
-    let f : Fits prologue start = record { room = omega arith } in
+    let f : Fits prologue unwritten = record { room = omega arith } in
     head _ _ _ (tail _ _ _ _ _ _ _ _ f (rw (c .before .before .before .before .before .before .before .before .ldx-w .ensures) at (c .before .before .before .before .before .before .before .push .ensures)))
 
 same-length : tie.Need-same-length

@@ -250,7 +250,10 @@ fn listing_case(bytes: &mut [u8], output: &mut [u8], work: &mut [u32]) -> Next {
     let Part::Bytes(n) = read_part(bytes) else {
         return Next::Broken;
     };
-    if output.len() < 65536 || work.len() < 16384 {
+    if output.len() < 65536 {
+        return Next::Broken;
+    }
+    if work.len() < 16384 {
         return Next::Broken;
     }
     list(&bytes[..n], &mut output[..65536], &mut work[..16384]);

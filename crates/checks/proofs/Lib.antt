@@ -4,3 +4,4 @@ pub mod Examples
 pub mod Lengths
 pub mod Places
 pub mod Refusals
+pub mod Unique

@@ -4,3 +4,4 @@ pub mod Numbers
 pub mod Acts
 pub mod Runs
 pub mod Examples
+pub mod Unique

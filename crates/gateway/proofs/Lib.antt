@@ -1,2 +1,3 @@
 pub mod Judges
 pub mod Worked
+pub mod Unique

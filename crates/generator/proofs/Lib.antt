@@ -6,3 +6,4 @@ pub mod Programs
 pub mod Answers
 pub mod Admitted
 pub mod Examples
+pub mod Unique

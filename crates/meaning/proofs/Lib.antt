@@ -5,3 +5,4 @@ pub mod Walks
 pub mod Parts
 pub mod Verdicts
 pub mod Examples
+pub mod Unique

@@ -246,18 +246,29 @@ fn compile_case(sheet: &mut [u8], output: &mut [u8], work: &mut [u32]) -> Next {
     Next::More
 }
 
+// The listing program's buffers are the first so many places.
+fn list_within(
+    input: &[u8],
+    output: &mut [u8],
+    work: &mut [u32],
+    bytes: usize,
+    numbers: usize,
+) -> Next {
+    if output.len() < bytes {
+        return Next::Broken;
+    }
+    if work.len() < numbers {
+        return Next::Broken;
+    }
+    list(input, &mut output[..bytes], &mut work[..numbers]);
+    Next::More
+}
+
 fn listing_case(bytes: &mut [u8], output: &mut [u8], work: &mut [u32]) -> Next {
     let Part::Bytes(n) = read_part(bytes) else {
         return Next::Broken;
     };
-    if output.len() < 65536 {
-        return Next::Broken;
-    }
-    if work.len() < 16384 {
-        return Next::Broken;
-    }
-    list(&bytes[..n], &mut output[..65536], &mut work[..16384]);
-    Next::More
+    list_within(&bytes[..n], output, work, 65536, 16384)
 }
 
 fn next_case(bytes: &mut [u8], frame: &mut [u8], output: &mut [u8], work: &mut [u32]) -> Next {

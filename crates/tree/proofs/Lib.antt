@@ -3,3 +3,4 @@ pub mod Prefix
 pub mod Counts
 pub mod Exact
 pub mod Examples
+pub mod Unique

@@ -92,6 +92,12 @@ fn program_finds_its_own_room() {
 }
 
 #[test]
+fn the_wrappers_example_holds() {
+    let code = program(&ip(), Link::Ethernet, Mode::Mended).unwrap();
+    assert_eq!(run(&code, &[0; 60], 0, code.len() as u64 / 8).verdict(), Some(false));
+}
+
+#[test]
 fn evaluate_judges_or_refuses() {
     assert_eq!(evaluate(&ip(), Link::Ethernet, &frame([8, 0])), Ok(true));
     assert_eq!(evaluate(&ip(), Link::Ethernet, &frame([8, 6])), Ok(false));
@@ -100,7 +106,7 @@ fn evaluate_judges_or_refuses() {
     assert_eq!(evaluate(&[], Link::Ethernet, &[]), Err(refused(Refusal::Length, 0)));
     let deep = sheet(&[7, 0, 1], &[vec![3; 256], vec![0]].concat());
     assert_eq!(evaluate(&deep, Link::Ethernet, &[]), Err(refused(Refusal::TooDeep, 0)));
-    assert_eq!(evaluate(&sheet(&[16 + 6], &[0]), Link::Ethernet, &[]), Err(refused(Refusal::Direction, 0)));
+    assert_eq!(evaluate(&sheet(&[22], &[0]), Link::Ethernet, &[]), Err(refused(Refusal::Direction, 0)));
 }
 
 #[test]

@@ -1,7 +1,8 @@
 //! Safe functions over `libbromaveluth.a`: [`compile`] a filter's sheet, [`evaluate`] it on a frame, [`run`] its program.
 //!
 //! `rt staticlib bromaveluth` proves the archive's functions against their contracts and writes it; it links into x86-64 Linux programs.
-//! The functions take any bytes and any lengths, and never panic. "Document 01" is the paper of rules that they follow.
+//! The functions take any bytes and any lengths; they panic only at an answer that the archive's contracts rule out, as of another
+//! archive. "Document 01" is the paper of rules that they follow.
 //!
 //! ```no_run
 //! use bromaveluth::{program, run, Link, Mode};
@@ -93,9 +94,9 @@ pub fn compile(sheet: &[u8], link: Link, mode: Mode, output: &mut [u8], work: &m
             &mut answer,
         )
     };
-    match Refusal::from_number(status) {
-        None => Ok(answer as usize),
-        Some(refusal) => Err(Refused { refusal, place: answer as usize }),
+    match status {
+        0 => Ok(answer as usize),
+        number => Err(Refused::told(number, answer)),
     }
 }
 
@@ -123,9 +124,9 @@ pub fn evaluate(sheet: &[u8], link: Link, frame: &[u8]) -> Result<bool, Refused>
     // SAFETY: as in `compile`.
     let status =
         unsafe { bromaveluth_evaluate(sheet.as_ptr(), sheet.len(), link as u8, frame.as_ptr(), frame.len(), &mut answer) };
-    match Refusal::from_number(status) {
-        None => Ok(answer == 1),
-        Some(refusal) => Err(Refused { refusal, place: answer as usize }),
+    match status {
+        0 => Ok(answer == 1),
+        number => Err(Refused::told(number, answer)),
     }
 }
 
@@ -136,5 +137,5 @@ pub fn run(program: &[u8], frame: &[u8], start: u64, budget: u64) -> Outcome {
     let stop = unsafe {
         bromaveluth_run(program.as_ptr(), program.len(), frame.as_ptr(), frame.len(), start, budget, &mut r0, &mut steps)
     };
-    Outcome { stop: Stop::from_number(stop), r0, steps }
+    Outcome { stop: Stop::told(stop), r0, steps }
 }

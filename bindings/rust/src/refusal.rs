@@ -103,6 +103,16 @@ pub struct Refused {
     pub place: usize,
 }
 
+impl Refused {
+    /// The refusal that a function told by its status and the number beside it.
+    pub(crate) fn told(number: u8, place: u64) -> Refused {
+        match Refusal::from_number(number) {
+            Some(refusal) => Refused { refusal, place: place as usize },
+            None => unreachable!("document 01 has no refusal {number}"),
+        }
+    }
+}
+
 impl fmt::Display for Refused {
     fn fmt(&self, f: &mut fmt::Formatter<'_>) -> fmt::Result {
         let Refused { refusal, place } = self;

@@ -23,8 +23,8 @@ pub enum Stop {
 }
 
 impl Stop {
-    /// The machine answers with these seven numbers only.
-    pub(crate) fn from_number(number: u8) -> Stop {
+    /// The stop that the machine told.
+    pub(crate) fn told(number: u8) -> Stop {
         match number {
             0 => Stop::Exit,
             30 => Stop::Form,
@@ -32,7 +32,8 @@ impl Stop {
             32 => Stop::NotWritten,
             33 => Stop::NoInstruction,
             34 => Stop::Budget,
-            _ => Stop::Input,
+            35 => Stop::Input,
+            _ => unreachable!("document 01 has no stop {number}"),
         }
     }
 

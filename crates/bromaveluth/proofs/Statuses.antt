@@ -1,5 +1,5 @@
--- Status 0 is no refusal's: every refusal that `compile` and `evaluate` give has a number that is not 0.
-use Prim.Native.Nat.{ℕ, _+_, _*_, _<_}
+-- Status 0 is no refusal's: every refusal that `compile` and `evaluate` give has one of the numbers 1 to 19.
+use Prim.Native.Nat.{ℕ, _+_, _*_, _<_, _≤_}
 use mathlib.Core.Path.{_≡_, refl, sym}
 use mathlib.Core.List.{List, [], _∷_, _++_}
 use mathlib.Core.Bool.{Bool, true, false, not, cond, true≢false}
@@ -43,40 +43,39 @@ use Rattle.generator.specs.Compile.{outcome, outcomeOf, answerOf}
 use Rattle.generator.specs.Compile.Outcome.{late}
 use Rattle.generator.specs.declared.Compiled.{Compiled}
 use Rattle.generator.specs.declared.Compiled.the-variants as compiled
+use Rattle.bromaveluth.proofs.Earned.{either, at-most}
 use Rattle.bromaveluth.specs.Boundary.{compiledStatus, verdictStatus}
 
--- What holds of both sides of a choice, each under its test, holds of the choice.
-either : {A : Type 0} (P : A → Type 0) (b : Bool) (x y : A) → (b ≡ true → P x) → (b ≡ false → P y) → P (cond b x y)
-either P true x y p q = p refl
-either P false x y p q = q refl
+abbrev pub Number : ℕ → Type 0
+Number n = (0 < n) × (n ≤ 19)
 
--- In each answer on the way the number of a refusal, if it is one, is above 0.
+-- In each answer on the way the number of a refusal, if it is one, is one of document 01's.
 abbrev pub Checks : Checked → Type 0
-Checks (checked.Refused number place) = 0 < number
+Checks (checked.Refused number place) = Number number
 Checks (checked.Good a b c) = Unit {0}
 
 abbrev pub Measures : Measured → Type 0
-Measures (measure.Refused number place) = 0 < number
+Measures (measure.Refused number place) = Number number
 Measures (measure.Length a b c l) = Unit {0}
 
 abbrev pub Tells : Verdict → Type 0
-Tells (verdict.Refused number place) = 0 < number
+Tells (verdict.Refused number place) = Number number
 Tells (verdict.Judged holds) = Unit {0}
 
 abbrev pub Templates : Tpl → Type 0
 Templates (code xs) = Unit {0}
-Templates (refused c) = 0 < c
+Templates (refused c) = Number c
 
 abbrev pub Emits : ResL → Type 0
-Emits (failL c i) = 0 < c
+Emits (failL c i) = Number c
 Emits (okL is k sp fp) = Unit {0}
 
 abbrev pub Makes : CompL → Type 0
-Makes (stoppedL c i) = 0 < c
+Makes (stoppedL c i) = Number c
 Makes (madeL is) = Unit {0}
 
 abbrev pub Answers : Compiled → Type 0
-Answers (compiled.Refused number place) = 0 < number
+Answers (compiled.Refused number place) = Number number
 Answers (compiled.Program l) = Unit {0}
 
 -- Refusals 1 to 6.
@@ -85,24 +84,24 @@ unfolding checkAccesses
 accesses link steps prims a b c =
     let x = first (farOffset link prims) b 0 in
     let y = first (shiftAt steps prims) b 0 in
-    either Checks (ltb x b) (checked.Refused 5 x) (cond (ltb y b) (checked.Refused 6 y) (checked.Good a b c)) (λ e. omega arith)
-    (λ e. either Checks (ltb y b) (checked.Refused 6 y) (checked.Good a b c) (λ e. omega arith) (λ e. tt))
+    either Checks (ltb x b) (checked.Refused 5 x) (cond (ltb y b) (checked.Refused 6 y) (checked.Good a b c)) (λ e. (omega arith, omega arith))
+    (λ e. either Checks (ltb y b) (checked.Refused 6 y) (checked.Good a b c) (λ e. (omega arith, omega arith)) (λ e. tt))
 
 parts : (link : LinkType) (steps prims tokens : List ℕ) (a b c : ℕ) → Checks (checkParts link steps prims tokens a b c)
 unfolding checkParts
 parts link steps prims tokens a b c =
-    either Checks (ltb (lowestWrong steps prims tokens a b c) (5 * a + 24 * b + c + 6)) (checked.Refused 3 (lowestWrong steps prims tokens a b c)) (cond (complete prims tokens a b) (checkAccesses link steps prims a b c) (checked.Refused 4 0)) (λ e. omega arith)
-    (λ e. either Checks (complete prims tokens a b) (checkAccesses link steps prims a b c) (checked.Refused 4 0) (λ e. accesses link steps prims a b c) (λ e. omega arith))
+    either Checks (ltb (lowestWrong steps prims tokens a b c) (5 * a + 24 * b + c + 6)) (checked.Refused 3 (lowestWrong steps prims tokens a b c)) (cond (complete prims tokens a b) (checkAccesses link steps prims a b c) (checked.Refused 4 0)) (λ e. (omega arith, omega arith))
+    (λ e. either Checks (complete prims tokens a b) (checkAccesses link steps prims a b c) (checked.Refused 4 0) (λ e. accesses link steps prims a b c) (λ e. (omega arith, omega arith)))
 
 sections : (link : LinkType) (s : List ℕ) (x : Sections) → Checks (checkSections link s x)
 unfolding checkSections
 sections link s (Found a b c) = parts link (stepsPart s a) (primsPart s a b) (tokensPart s a b c) a b c
-sections link s Wrong = omega arith
+sections link s Wrong = (omega arith, omega arith)
 
 pub checks : (s : List ℕ) (link : ℕ) → Checks (checkOf s link)
 unfolding checkOf
 checks s link =
-    either Checks (ltb 1 link) (checked.Refused 1 0) (checkSections (linkOf link) s (sectionsOf s)) (λ e. omega arith) (λ e. sections (linkOf link) s (sectionsOf s))
+    either Checks (ltb 1 link) (checked.Refused 1 0) (checkSections (linkOf link) s (sectionsOf s)) (λ e. (omega arith, omega arith)) (λ e. sections (linkOf link) s (sectionsOf s))
 
 -- Refusals 7 and 8.
 of-checked : (k : Checked) → Checks k → (s : List ℕ) (link : ℕ) → Measures (measured k s link)
@@ -114,13 +113,13 @@ of-room : (m : Measured) → Measures m → (output work : ℕ) → Measures (ro
 unfolding roomed
 of-room (measure.Refused number place) h output work = h
 of-room (measure.Length a b c l) h output work =
-    either Measures (ltb output (8 * l)) (measure.Refused 7 0) (cond (ltb work (l + 8 * c)) (measure.Refused 8 0) (measure.Length a b c l)) (λ e. omega arith)
-    (λ e. either Measures (ltb work (l + 8 * c)) (measure.Refused 8 0) (measure.Length a b c l) (λ e. omega arith) (λ e. tt))
+    either Measures (ltb output (8 * l)) (measure.Refused 7 0) (cond (ltb work (l + 8 * c)) (measure.Refused 8 0) (measure.Length a b c l)) (λ e. (omega arith, omega arith))
+    (λ e. either Measures (ltb work (l + 8 * c)) (measure.Refused 8 0) (measure.Length a b c l) (λ e. (omega arith, omega arith)) (λ e. tt))
 
 pub admits : (s : List ℕ) (link mode output work : ℕ) → Measures (admitOf s link mode output work)
 unfolding admitOf measureOf
 admits s link mode output work =
-    either Measures (ltb 1 mode) (measure.Refused 1 0) (roomed (measured (checkOf s link) s link) output work) (λ e. omega arith)
+    either Measures (ltb 1 mode) (measure.Refused 1 0) (roomed (measured (checkOf s link) s link) output work) (λ e. (omega arith, omega arith))
     (λ e. of-room (measured (checkOf s link) s link) (of-checked (checkOf s link) (checks s link) s link) output work)
 
 -- Refusals 10 to 19 of the generator.
@@ -131,14 +130,14 @@ pub templates : (mode : ℕ) (link : LinkType) (steps prims : List ℕ) (k : ℕ
 unfolding template templateOf
 templates mode link steps prims k =
     let r = refusal link steps (stepsBefore prims k) (decodeAt prims (24 * k)) in
-    either Templates (eqb r 0) _ (refused r) (λ e. tt) (λ e. above r (eqb-false r 0 e))
+    either Templates (eqb r 0) _ (refused r) (λ e. tt) (λ e. (above r (eqb-false r 0 e), at-most link steps (stepsBefore prims k) (decodeAt prims (24 * k))))
 
 leaves : (t : Tpl) → Templates t → (k : ℕ) (is : List Insn) → Emits (onLeafL t k is)
 leaves (code xs) h k is = tt
 leaves (refused c) h k is = h
 
 when : (p : Patched) (r : ResL) → Emits r → Emits (whenL p r)
-when TooFar r h = omega arith
+when TooFar r h = (omega arith, omega arith)
 when Done r h = h
 
 and-done : (kept : List ℕ) (r : ResL) → Emits r → Emits (andDoneL kept r)
@@ -173,8 +172,8 @@ emits tpl h (or a b) k is = or-right (emitL tpl a k is) (emits tpl h a k is) (λ
 emits tpl h (inv a) k is = not-done (emitL tpl a k is) (emits tpl h a k is)
 
 ends : (p q : Patched) (is : List Insn) → Makes (endL p q is)
-ends TooFar q is = omega arith
-ends Done TooFar is = omega arith
+ends TooFar q is = (omega arith, omega arith)
+ends Done TooFar is = (omega arith, omega arith)
 ends Done Done is = tt
 
 of-emitted : (r : ResL) → Emits r → Makes (resCompL r)
@@ -200,14 +199,14 @@ of-measured (measure.Length a b c l) h s link mode =
     late-answers l c (compileL tpl (treeOf (tokensPart s a b c)))
     (makes tpl (templates mode (linkOf link) (stepsPart s a) (primsPart s a b)) (treeOf (tokensPart s a b c)))
 
--- No refusal of `compile` has the number 0.
+-- The number of every refusal of `compile` is one of 1 to 19.
 pub answers : (s : List ℕ) (link mode output work : ℕ) → Answers (answerOf (outcomeOf s link mode output work))
 unfolding outcomeOf
 answers s link mode output work = of-measured (admitOf s link mode output work) (admits s link mode output work) s link mode
 
 accepted : (x : Compiled) → Answers x → compiledStatus x ≡ 0 → (l : ℕ) × (x ≡ compiled.Program l)
 unfolding compiledStatus
-accepted (compiled.Refused number place) h e = absurd (omega arith)
+accepted (compiled.Refused number place) h e = absurd (omega (arith, h .0))
 accepted (compiled.Program l) h e = (l, refl)
 
 -- `bromaveluth_compile` returns 0 exactly when the sheet is accepted.
@@ -223,15 +222,22 @@ earned n e = go (eqb n 0) refl e
     go true f g = absurd (true≢false (sym g))
     go false f g = above n (eqb-false n 0 f)
 
+record-most : (link : LinkType) (steps prims : List ℕ) (k : ℕ) → refusalAt link steps prims k ≤ 19
+unfolding refusalAt
+record-most link steps prims k = at-most link steps (stepsBefore prims k) (decodeAt prims (24 * k))
+
 judges : (link : LinkType) (steps prims tokens : List ℕ) (b : ℕ) (f : List ℕ) → Tells (judge link steps prims tokens b f)
 unfolding judge firstRefused
 judges link steps prims tokens b f =
     let x = first (λ k. not (eqb (refusalAt link steps prims k) 0)) b 0 in
     let said = verdict.Judged (expressionHolds link steps prims tokens f) in
     let told = verdict.Refused (refusalAt link steps prims x) x in
-    either Tells (ltb 256 (depth (treeOf tokens))) (verdict.Refused 9 0) (cond (ltb x b) told said) (λ e. omega arith)
+    either Tells (ltb 256 (depth (treeOf tokens))) (verdict.Refused 9 0) (cond (ltb x b) told said) (λ e. (omega arith, omega arith))
     (λ e. either Tells (ltb x b) told said
-    (λ e. earned (refusalAt link steps prims x) (first-passes (λ k. not (eqb (refusalAt link steps prims k) 0)) b 0 (let h = ltb-true x b e in omega (arith, h))))
+    (λ e. (
+      earned (refusalAt link steps prims x) (first-passes (λ k. not (eqb (refusalAt link steps prims k) 0)) b 0 (let h = ltb-true x b e in omega (arith, h))),
+      record-most link steps prims x,
+    ))
     (λ e. tt))
 
 of-sheet : (k : Checked) → Checks k → (link : LinkType) (s f : List ℕ) → Tells (evaluated k link s f)
@@ -239,14 +245,14 @@ unfolding evaluated
 of-sheet (checked.Refused number place) h link s f = h
 of-sheet (checked.Good a b c) h link s f = judges link (stepsPart s a) (primsPart s a b) (tokensPart s a b c) b f
 
--- No refusal of `evaluate` has the number 0.
+-- The number of every refusal of `evaluate` is one of 1 to 19.
 pub tells : (s : List ℕ) (link : ℕ) (f : List ℕ) → Tells (evaluateOf s link f)
 unfolding evaluateOf
 tells s link f = of-sheet (checkOf s link) (checks s link) (linkOf link) s f
 
 judged : (x : Verdict) → Tells x → verdictStatus x ≡ 0 → (holds : Bool) × (x ≡ verdict.Judged holds)
 unfolding verdictStatus
-judged (verdict.Refused number place) h e = absurd (omega arith)
+judged (verdict.Refused number place) h e = absurd (omega (arith, h .0))
 judged (verdict.Judged holds) h e = (holds, refl)
 
 -- `bromaveluth_evaluate` returns 0 exactly when the sheet is judged.

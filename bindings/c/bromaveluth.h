@@ -6,9 +6,12 @@
  * What a caller owes, since C cannot be asked to prove it:
  * - a pointer and the count behind it name memory of so many elements, aligned for its type; where the count is 0, nothing is read or
  *   written through the pointer, and it may be NULL. The pointers without a count (answer, r0, steps) point to one number each.
- * - what a function writes overlaps nothing else that the call is lent, and no other thread touches what is lent before it returns.
+ * - what a function writes overlaps nothing else that the call is lent; until it returns, no other thread writes what is lent or reads
+ *   what the function writes.
  * Beyond that any bytes, numbers and counts may be passed. No function keeps a pointer, allocates, or calls anything of the C library
  * but memcpy, memmove and memset; calls from several threads at once are fine where the memory lent to each is its own.
+ * Stack, measured and not proved: 94,632 bytes for an evaluation of a tree of depth 256, the deepest that is not refused; below 1,000 bytes
+ * for compile and run on the inputs tried.
  */
 #ifndef BROMAVELUTH_H
 #define BROMAVELUTH_H

@@ -4,15 +4,17 @@ include!(concat!(env!("OUT_DIR"), "/rust.rs"));
 mod codegen;
 mod error;
 mod sheet;
+mod tree;
 
 use ast::*;
 use codegen::LinkType;
 use ebpf::Insn;
 use error::Error;
-use sheet::{Refusal, Sheet};
+use sheet::Refusal;
 use std::fmt::Write as _;
 use std::io::{self, BufWriter, Read, Write};
 use std::process::exit;
+use tree::tree;
 
 /// The program, or the Rust's message.
 fn compile(expr: &Expr, link: LinkType) -> Result<Vec<Insn>, String> {
@@ -77,22 +79,6 @@ fn count(p: &Primitive, link: LinkType, messages: &Messages) -> usize {
         }
         _ => 0,
     }
-}
-
-fn tree(sheet: &Sheet) -> Expr {
-    let mut stack = Vec::new();
-    let mut primitives = sheet.primitives.iter().rev();
-    for token in sheet.tokens.iter().rev() {
-        let mut next = || Box::new(stack.pop().unwrap());
-        let node = match token {
-            0 => Expr::Primitive(primitives.next().unwrap().clone()),
-            1 => Expr::And(next(), next()),
-            2 => Expr::Or(next(), next()),
-            _ => Expr::Not(next()),
-        };
-        stack.push(node);
-    }
-    stack.pop().unwrap()
 }
 
 /// Mended mode, which is document 01's rule and not the Rust's: class 6 for a conditional jump on R4 and an immediate.

@@ -1,0 +1,87 @@
+/* libbromaveluth.a: a packet-filter generator, an evaluator and an eBPF step machine, for x86-64 Linux.
+ *
+ * `rt staticlib bromaveluth` proves the functions below against their contracts (crates/bromaveluth/src/lib.rt) and writes the archive.
+ * A comment here says in words what a contract says in definitions; "document 01" is the paper of rules that they follow.
+ *
+ * What a caller owes, since C cannot be asked to prove it:
+ * - a pointer and the count behind it name memory of so many elements, aligned for its type; where the count is 0, nothing is read or
+ *   written through the pointer, and it may be NULL. The pointers without a count (answer, r0, steps) point to one number each.
+ * - what a function writes overlaps nothing else that the call is lent; until it returns, no other thread writes what is lent or reads
+ *   what the function writes.
+ * Beyond that any bytes, numbers and counts may be passed. No function keeps a pointer, allocates, or calls anything of the C library
+ * but memcpy, memmove and memset; calls from several threads at once are fine where the memory lent to each is its own.
+ * Stack, measured and not proved: 94,632 bytes for an evaluation of a tree of depth 256, the deepest that is not refused; below 1,000 bytes
+ * for compile and run on the inputs tried.
+ */
+#ifndef BROMAVELUTH_H
+#define BROMAVELUTH_H
+
+#include <stddef.h>
+#include <stdint.h>
+
+#ifdef __cplusplus
+extern "C" {
+#endif
+
+/* Links and modes; any other number is refused (1). */
+enum { BROMAVELUTH_ETHERNET = 0, BROMAVELUTH_RAW_IP = 1 };
+enum { BROMAVELUTH_PLAIN = 0, BROMAVELUTH_MENDED = 1 };
+
+/* Refusals, in the order in which they are looked for; the place is 0 where none is named. */
+enum {
+    BROMAVELUTH_LINK_OR_MODE = 1,    /* link or mode above 1 */
+    BROMAVELUTH_LENGTH = 2,          /* sheet length differs from what its counts ask, or a count is cut */
+    BROMAVELUTH_WRONG_BYTE = 3,      /* a code or unused byte is wrong; place: the lowest wrong byte */
+    BROMAVELUTH_NOT_ONE_TREE = 4,    /* tokens are not one whole tree, or primitives or steps are left over or lacking */
+    BROMAVELUTH_OFFSET = 5,          /* a byte access's left offset is negative as given, or above 32767 (Net: plus the header offset);
+                                        place: the first such primitive */
+    BROMAVELUTH_SHIFT = 6,           /* a shift by 32 or more; place: the first such primitive */
+    BROMAVELUTH_OUTPUT = 7,          /* output below 8 x L bytes */
+    BROMAVELUTH_WORK = 8,            /* work below L + 8 x tokens numbers of 32 bits */
+    BROMAVELUTH_TOO_DEEP = 9,        /* evaluator only: tree deeper than 256, the root counted */
+    BROMAVELUTH_JUMP = 10,           /* jump distance above 32767 */
+    BROMAVELUTH_ETHERTYPE = 11,      /* ethertype on RawIp other than 0x0800; place, here and below: the primitive */
+    BROMAVELUTH_PORT_PROTOCOL = 12,  /* ports with p not 0, 5, 6 or 10 */
+    BROMAVELUTH_ETHER_HOST = 13,     /* EtherHost on RawIp */
+    BROMAVELUTH_ETHER_MULTICAST = 14, /* EtherMulticast on RawIp */
+    BROMAVELUTH_MPLS = 15,           /* Mpls on RawIp */
+    BROMAVELUTH_DIRECTION = 16,      /* Inbound, Outbound */
+    BROMAVELUTH_LOAD = 17,           /* comparison with a load */
+    BROMAVELUTH_DIVISION = 18,       /* first bad step: division by 0 */
+    BROMAVELUTH_MODULO = 19          /* first bad step: Mod */
+};
+
+/* Stops of the machine. */
+enum {
+    BROMAVELUTH_EXIT = 0,            /* exit */
+    BROMAVELUTH_FORM = 30,           /* a form emitted in neither mode */
+    BROMAVELUTH_OUTSIDE = 31,        /* load outside the frame, or through R1 at other than 0 and 4 */
+    BROMAVELUTH_NOT_WRITTEN = 32,    /* register not yet written */
+    BROMAVELUTH_NO_INSTRUCTION = 33, /* no instruction there */
+    BROMAVELUTH_BUDGET = 34,         /* budget spent */
+    BROMAVELUTH_INPUT = 35           /* length zero or no multiple of 8, or start plus frame length 2^32 or more */
+};
+
+/* Compiles a sheet. Returns 0 and the number L of the program's instructions in *answer, or a refusal (1 to 8, 10 to 19) and its place
+ * there. After 0 the first 8 x L bytes of output are the program; after 1 to 8 output and work are as they were; after 10 to 19 the
+ * first 8 x L bytes of output are zero. Except after 1 to 8 the first L + 8 x tokens numbers of work are zero. Nothing else changes.
+ * The program, run with a budget of L on a frame at a start with start + length below 2^32, exits within L steps, and R0 is 2 exactly
+ * when the sheet's expression holds on the frame, else 1; in plain mode for sheets whose comparison constants are all below 2^31. */
+uint8_t bromaveluth_compile(const uint8_t *sheet, size_t sheet_bytes, uint8_t link, uint8_t mode, uint8_t *output, size_t output_bytes,
+                            uint32_t *work, size_t work_numbers, uint64_t *answer);
+
+/* Evaluates a sheet on a frame, without a program. Returns 0 and in *answer 1 if the expression holds, 0 if it does not; or a refusal
+ * (1 to 6, 9, 11 to 19) and its place there. Nothing else is written. */
+uint8_t bromaveluth_evaluate(const uint8_t *sheet, size_t sheet_bytes, uint8_t link, const uint8_t *frame, size_t frame_bytes,
+                             uint64_t *answer);
+
+/* Runs a program's bytes on a frame that lies at start, for at most budget steps. Returns the stop; *r0 is R0 after stop 0 and 0 after
+ * any other, *steps the number of steps carried out, an exit counted. Nothing else is written. */
+uint8_t bromaveluth_run(const uint8_t *program, size_t program_bytes, const uint8_t *frame, size_t frame_bytes, uint64_t start,
+                        uint64_t budget, uint64_t *r0, uint64_t *steps);
+
+#ifdef __cplusplus
+}
+#endif
+
+#endif

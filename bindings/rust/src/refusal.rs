@@ -1,0 +1,127 @@
+//! Document 01's refusals.
+
+use std::fmt;
+
+/// Why a sheet was refused, in the order in which refusals are looked for.
+#[derive(Clone, Copy, Debug, PartialEq, Eq, Hash)]
+#[repr(u8)]
+pub enum Refusal {
+    /// 1: link or mode above 1. The enums of this crate have no such number.
+    LinkOrMode = 1,
+    /// 2: sheet length differs from what its counts ask, or a count is cut.
+    Length = 2,
+    /// 3: a code or unused byte is wrong. The place is the lowest wrong byte.
+    WrongByte = 3,
+    /// 4: tokens are not one whole tree, or primitives or steps are left over or lacking.
+    NotOneTree = 4,
+    /// 5: a byte access's left offset is negative as given, or above 32767 (Net: plus the header offset). The place is the first such
+    /// primitive.
+    Offset = 5,
+    /// 6: a shift by 32 or more. The place is the first such primitive.
+    Shift = 6,
+    /// 7: output below 8 x L bytes.
+    Output = 7,
+    /// 8: work below L + 8 x tokens numbers of 32 bits.
+    Work = 8,
+    /// 9: evaluator only: tree deeper than 256, the root counted.
+    TooDeep = 9,
+    /// 10: jump distance above 32767.
+    Jump = 10,
+    /// 11: ethertype on RawIp other than 0x0800. The place, here and below, is the primitive.
+    Ethertype = 11,
+    /// 12: ports with p not 0, 5, 6 or 10.
+    PortProtocol = 12,
+    /// 13: EtherHost on RawIp.
+    EtherHost = 13,
+    /// 14: EtherMulticast on RawIp.
+    EtherMulticast = 14,
+    /// 15: Mpls on RawIp.
+    Mpls = 15,
+    /// 16: Inbound, Outbound.
+    Direction = 16,
+    /// 17: comparison with a load.
+    Load = 17,
+    /// 18: first bad step: division by 0.
+    Division = 18,
+    /// 19: first bad step: Mod.
+    Modulo = 19,
+}
+
+/// Every refusal with document 01's words for it; number n stands at n - 1.
+const TEXTS: [(Refusal, &str); 19] = [
+    (Refusal::LinkOrMode, "link or mode above 1"),
+    (Refusal::Length, "sheet length differs from what its counts ask, or a count is cut"),
+    (Refusal::WrongByte, "a code or unused byte is wrong"),
+    (Refusal::NotOneTree, "tokens are not one whole tree, or primitives or steps are left over or lacking"),
+    (Refusal::Offset, "a byte access's left offset is negative as given, or above 32767 (Net: plus the header offset)"),
+    (Refusal::Shift, "a shift by 32 or more"),
+    (Refusal::Output, "output below 8 x L bytes"),
+    (Refusal::Work, "work below L + 8 x tokens numbers of 32 bits"),
+    (Refusal::TooDeep, "evaluator only: tree deeper than 256, the root counted"),
+    (Refusal::Jump, "jump distance above 32767"),
+    (Refusal::Ethertype, "ethertype on RawIp other than 0x0800"),
+    (Refusal::PortProtocol, "ports with p not 0, 5, 6 or 10"),
+    (Refusal::EtherHost, "EtherHost on RawIp"),
+    (Refusal::EtherMulticast, "EtherMulticast on RawIp"),
+    (Refusal::Mpls, "Mpls on RawIp"),
+    (Refusal::Direction, "Inbound, Outbound"),
+    (Refusal::Load, "comparison with a load"),
+    (Refusal::Division, "first bad step: division by 0"),
+    (Refusal::Modulo, "first bad step: Mod"),
+];
+
+impl Refusal {
+    /// Document 01's number, 1 to 19.
+    pub fn number(self) -> u8 {
+        self as u8
+    }
+
+    /// The refusal with this number; none for 0 and for numbers above 19, which no function answers.
+    pub fn from_number(number: u8) -> Option<Refusal> {
+        let at = usize::from(number).checked_sub(1)?;
+        TEXTS.get(at).map(|&(refusal, _)| refusal)
+    }
+
+    /// Document 01's words.
+    pub fn text(self) -> &'static str {
+        TEXTS[self as usize - 1].1
+    }
+}
+
+impl fmt::Display for Refusal {
+    fn fmt(&self, f: &mut fmt::Formatter<'_>) -> fmt::Result {
+        f.write_str(self.text())
+    }
+}
+
+/// A refusal and its place: a byte of the sheet (3), a primitive counted from 0 (5, 6, 11 to 19), or 0.
+#[derive(Clone, Copy, Debug, PartialEq, Eq, Hash)]
+pub struct Refused {
+    /// Why.
+    pub refusal: Refusal,
+    /// Where.
+    pub place: usize,
+}
+
+impl Refused {
+    /// The refusal that a function told by its status and the number beside it.
+    pub(crate) fn told(number: u8, place: u64) -> Refused {
+        match Refusal::from_number(number) {
+            Some(refusal) => Refused { refusal, place: place as usize },
+            None => unreachable!("document 01 has no refusal {number}"),
+        }
+    }
+}
+
+impl fmt::Display for Refused {
+    fn fmt(&self, f: &mut fmt::Formatter<'_>) -> fmt::Result {
+        let Refused { refusal, place } = self;
+        match refusal.number() {
+            3 => write!(f, "refusal 3: {refusal} (byte {place})"),
+            n @ (5 | 6 | 11..=19) => write!(f, "refusal {n}: {refusal} (primitive {place})"),
+            n => write!(f, "refusal {n}: {refusal}"),
+        }
+    }
+}
+
+impl std::error::Error for Refused {}

@@ -39,15 +39,15 @@ def public(crate, root=ROOT):
 
 
 def answers(crate):
-    """The entries of CRATE.txt by function: promise, must-fail edits, wrong answers (says, old, new)."""
+    """The entries of CRATE.txt by function: promise, theorem if its name is another, must-fail edits, wrong answers."""
     found, entry = {}, None
     for line in open(os.path.join(HERE, crate + ".txt"), encoding="utf-8"):
         line = line.rstrip("\n")
         word, _, rest = line.partition(" ")
         if word == "fn":
-            entry = found[rest] = {"promise": "", "edits": [], "wrong": []}
-        elif word == "promise:":
-            entry["promise"] = rest
+            entry = found[rest] = {"promise": "", "theorem": "", "edits": [], "wrong": []}
+        elif word in ("promise:", "theorem:"):
+            entry[word[:-1]] = rest
         elif word == "edit:":
             entry["edits"] = rest.split(", ")
         elif word == "says:":

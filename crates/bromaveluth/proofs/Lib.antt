@@ -1,3 +1,4 @@
 pub mod Earned
 pub mod Statuses
 pub mod Stops
+pub mod Unique

@@ -14,3 +14,4 @@ pub mod Program
 pub mod Exact
 pub mod WholeTrees
 pub mod Examples
+pub mod Unique

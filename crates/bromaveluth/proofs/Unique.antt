@@ -1,0 +1,17 @@
+-- Any two answers that a public function's contract allows are equal: the result, and the last value of everything lent.
+use mathlib.Core.Path.{sym, _∙_}
+use Rattle.unique.proofs.Unique.{Unique, unique, plain, beside}
+use Rattle.bromaveluth.proofs as crate
+
+pub bromaveluth-compile : Unique crate.bromaveluth_compile.ended (λ M 𝓤. crate.bromaveluth_compile.clauses 𝓤)
+bromaveluth-compile =
+    unique (beside _ (beside _ (beside _ (plain _))))
+    (λ κs a r r′ ws ws′ p q. (p .0 ∙ sym (q .0), λ i. (tt, (tt, (tt, ((p .1 .1 .0 ∙ sym (q .1 .1 .0)) i, ((p .1 .1 .1 ∙ sym (q .1 .1 .1)) i, ((p .1 .0 ∙ sym (q .1 .0)) i, tt))))))))
+
+pub bromaveluth-evaluate : Unique crate.bromaveluth_evaluate.ended (λ M 𝓤. crate.bromaveluth_evaluate.clauses 𝓤)
+bromaveluth-evaluate = unique (beside _ (plain _)) (λ κs a r r′ ws ws′ p q. (p .0 ∙ sym (q .0), λ i. (tt, (tt, (tt, ((p .1 ∙ sym (q .1)) i, tt))))))
+
+pub bromaveluth-run : Unique crate.bromaveluth_run.ended (λ M 𝓤. crate.bromaveluth_run.clauses 𝓤)
+bromaveluth-run =
+    unique (beside _ (beside _ (plain _)))
+    (λ κs a r r′ ws ws′ p q. (p .0 ∙ sym (q .0), λ i. (tt, (tt, (tt, (tt, ((p .1 .0 ∙ sym (q .1 .0)) i, ((p .1 .1 ∙ sym (q .1 .1)) i, tt))))))))

@@ -4,7 +4,7 @@ import re
 
 HERE = os.path.dirname(os.path.abspath(__file__))
 ROOT = os.path.dirname(os.path.dirname(HERE))
-CRATES = ["ebpf", "layers", "tree", "filter", "checks", "meaning", "patches", "codegen", "generator", "gateway", "report"]
+CRATES = ["ebpf", "layers", "tree", "filter", "checks", "meaning", "patches", "pieces", "codegen", "generator", "gateway", "bromaveluth", "report"]
 
 
 class Function:
@@ -20,7 +20,7 @@ def functions_in(path, module):
     for line in source.splitlines(keepends=True):
         m = re.match(r"impl (\w+)", line)
         owner = m.group(1) if m else "" if line.startswith("}") else owner
-        m = re.match(r"( *)pub fn (\w+)", line)
+        m = re.match(r'( *)pub (?:extern "C" )?fn (\w+)', line)
         if m:
             end = source.index("\n" + m.group(1) + "}\n", at) + len(m.group(1)) + 2
             name = "::".join(x for x in (module, owner, m.group(2)) if x)

@@ -31,6 +31,19 @@ pub first-more : (f : ℕ → Bool) (n i : ℕ) → i < n → f i ≡ false → 
 unfolding first
 first-more f n i h e = rw (suc-of i n h, add-one i, e)
 
+-- k numbers that do not, at once
+pub first-skip : (f : ℕ → Bool) (k m j : ℕ) → ((i : ℕ) → i < k → f (j + i) ≡ false) → first f (k + m) j ≡ first f m (j + k)
+unfolding first
+first-skip f zero m j h =
+    let z : 0 + m ≡ m = omega arith in
+    let y : j + 0 ≡ j = omega arith in
+    rw (z, y)
+first-skip f (suc k) m j h =
+    let z : suc k + m ≡ suc (k + m) = omega arith in
+    let y : j + suc k ≡ suc j + k = omega arith in
+    let here : f j ≡ false = (let o : j + 0 ≡ j = omega arith in rw o at (h 0 (omega arith))) in
+    rw (z, y, here) (first-skip f k m (suc j) (λ i l. (let e : j + suc i ≡ suc j + i = omega arith in rw e at (h (suc i) (omega arith)))))
+
 pub any-all : (f : ℕ → Bool) (n from : ℕ) → any f n from ≡ any f (n - 0) (from + 0)
 any-all f n from =
     let z : n - 0 ≡ n = omega arith in

@@ -3,7 +3,7 @@ use crate::bytes::record_byte;
 use crate::bytes::record_kind;
 use crate::bytes::token_at;
 ghost use mathlib.Core.Path.{_≡_};
-ghost use Prim.Native.Nat.{_+_, _*_};
+ghost use Prim.Native.Nat.{_+_, _*_, _/_, _%_, _^_, _<_};
 ghost use lib.ListN.{getD};
 ghost use Rattle.filter.specs.First.{first};
 ghost use Rattle.filter.specs.Wrong.{dirTable, pTable, qMost, fromTable, toTable, optional, fieldMost, numberMost, constTable, loadTable, otherTable, accessMost, plainMost, most, least, wrongByte, recordWrong, stepWrong, tokenWrong};
@@ -329,21 +329,54 @@ pub fn token_wrong(part: &[u8], j: u32) -> bool
     3 < token_at(part, j)
 }
 
+// Whether byte i of record r is wrong, which is byte j of the primitives: past byte 2 a zero never is.
+fn wrong_at(part: &[u8], j: u32, r: u32, i: u8) -> bool
+    requires { ⌜ j ≡ 24 * r + i ⌝ }
+    ensures { λ w. ⌜ w ≡ wrongByte (now (part .entry)) (24 * r) i ⌝ }
+{
+    if 2 < i {
+        if token_at(part, j) == 0 {
+            return false;
+        }
+    }
+    wrong_byte(part, r, i)
+}
+
+// The record of the byte after byte i of record r.
+fn next_record(r: u32, i: u8) -> u32
+    requires { ⌜ (r + 1 < 2 ^ 32) × (i < 24) ⌝ }
+    ensures { λ x. ⌜ x ≡ r + (i + 1) / 24 ⌝ }
+{
+    if i < 23 { r } else { r + 1 }
+}
+
+// The place in its record of the byte after byte i.
+fn next_place(i: u8) -> u8
+    requires { ⌜ i < 24 ⌝ }
+    ensures { λ x. ⌜ x ≡ (i + 1) % 24 ⌝ }
+{
+    if i < 23 { i + 1 } else { 0 }
+}
+
 // The lowest wrong byte of n bytes of primitives, n if none is.
 pub fn first_wrong_record(part: &[u8], n: u32) -> u32
     ensures { λ r. ⌜ r ≡ first (recordWrong (now (part .entry))) n 0 ⌝ }
 {
     let mut j: u32 = 0;
+    let mut r: u32 = 0;
+    let mut i: u8 = 0;
     while j < n {
-        if record_wrong(part, j) {
+        if wrong_at(part, j, r, i) {
             return j;
         }
         j += 1;
+        r = next_record(r, i);
+        i = next_place(i);
     }
     j
 }
 
-// The lowest wrong byte of n bytes of steps, n if none is.
+// The lowest wrong byte of n bytes of steps, n if none is: the first of each five is the only one with a rule.
 pub fn first_wrong_step(part: &[u8], n: u32) -> u32
     ensures { λ r. ⌜ r ≡ first (stepWrong (now (part .entry))) n 0 ⌝ }
 {
@@ -352,7 +385,10 @@ pub fn first_wrong_step(part: &[u8], n: u32) -> u32
         if step_wrong(part, j) {
             return j;
         }
-        j += 1;
+        if n - j <= 5 {
+            return n;
+        }
+        j += 5;
     }
     j
 }

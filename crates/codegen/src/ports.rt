@@ -1,5 +1,4 @@
 // Ports: the transport header's place in R6, then the numbers there.
-use crate::access::emit_transport;
 use ebpf::insn::Insn;
 use ebpf::insn::R2;
 use ebpf::insn::R6;
@@ -23,6 +22,7 @@ use pieces::guarded::push_guard;
 use pieces::load::jeq;
 use pieces::load::jne;
 use pieces::load::push_load;
+use pieces::steps::emit_transport;
 ghost use mathlib.Core.Path.{_≡_};
 ghost use Prim.Native.Nat.{suc};
 ghost use Rattle.patches.specs.Code.{em, block};

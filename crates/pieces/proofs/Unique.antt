@@ -65,3 +65,12 @@ emit-ip6-l4 = unique (plain _) (λ κs a r r′ ws ws′ p q. (λ i. (p ∙ sym 
 
 pub emit-dual-l4 : Unique crate.ether.emit_dual_l4.ended (λ M 𝓤. crate.ether.emit_dual_l4.clauses 𝓤)
 emit-dual-l4 = unique (plain _) (λ κs a r r′ ws ws′ p q. (λ i. (p ∙ sym q) i .patches, λ i. ((p ∙ sym q) i .out, ((p ∙ sym q) i .work, (tt, (tt, (tt, (tt, tt))))))))
+
+pub emit-cmp : Unique crate.steps.emit_cmp.ended (λ M 𝓤. crate.steps.emit_cmp.clauses 𝓤)
+emit-cmp = unique (plain _) (λ κs a r r′ ws ws′ p q. (λ i. (p ∙ sym q) i .patches, λ i. ((p ∙ sym q) i .out, ((p ∙ sym q) i .work, (tt, (tt, (tt, (tt, tt))))))))
+
+pub emit-transport : Unique crate.steps.emit_transport.ended (λ M 𝓤. crate.steps.emit_transport.clauses 𝓤)
+emit-transport = unique (plain _) (λ κs a r r′ ws ws′ p q. (λ i. (p ∙ sym q) i .patches, λ i. ((p ∙ sym q) i .out, ((p ∙ sym q) i .work, (tt, (tt, tt))))))
+
+pub emit-steps : Unique crate.steps.emit_steps.ended (λ M 𝓤. crate.steps.emit_steps.clauses 𝓤)
+emit-steps = unique (plain _) (λ κs a r r′ ws ws′ p q. (λ i. (p ∙ sym q) i .patches, λ i. ((p ∙ sym q) i .out, ((p ∙ sym q) i .work, (tt, (tt, (tt, (tt, tt))))))))

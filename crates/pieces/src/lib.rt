@@ -2,3 +2,4 @@
 pub mod ether;
 pub mod guarded;
 pub mod load;
+pub mod steps;

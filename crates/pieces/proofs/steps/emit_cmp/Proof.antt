@@ -1,12 +1,12 @@
 -- One case an operator.
 use Rattle.ebpf.specs.Insn.{new}
 use Rattle.patches.specs.Code.{with-off}
 use Rattle.pieces.specs.Fragments.{emit-cmp, fails, skips}
 use mathlib.Core.Path.{_∙_}
 use Rattle.pieces.proofs.Pieces.{head, tail, step, one}
 use borrow.Author.Needs.{needs}
-use Rattle.codegen.proofs.access.emit_cmp.Statement.{statement}
-use Rattle.codegen.proofs.access.emit_cmp.Tie as tie
+use Rattle.pieces.proofs.steps.emit_cmp.Statement.{statement}
+use Rattle.pieces.proofs.steps.emit_cmp.Tie as tie
 
 enum-told : tie.Need-enum-told
 enum-told c = search needs

@@ -10,11 +10,11 @@ use Rattle.filter.specs.Record.{stepAt}
 use Rattle.patches.specs.declared.Patches.{Patches}
 use Rattle.patches.specs.Code.{Slot, Emission, em, push1, block}
 use Rattle.patches.specs.Code.Slot.{fixed}
 use Rattle.pieces.specs.Fragments.{Fits, alu32-of, emit-steps}
 use Rattle.pieces.proofs.Pieces.{head, tail, step, as-fixed}
 use borrow.Author.Needs.{needs}
-use Rattle.codegen.proofs.access.emit_steps.Statement.{statement}
-use Rattle.codegen.proofs.access.emit_steps.Tie as tie
+use Rattle.pieces.proofs.steps.emit_steps.Statement.{statement}
+use Rattle.pieces.proofs.steps.emit_steps.Tie as tie
 
 abbrev insn-at : List ℕ → ℕ → Insn
 insn-at steps j = alu32-imm (alu32-of (stepAt steps (5 * j) .op)) 4 (stepAt steps (5 * j) .operand)

@@ -1,10 +1,10 @@
 -- The byte with the header's length, then five instructions.
 use Rattle.pieces.specs.Fragments.{transport}
 use mathlib.Core.Path.{_∙_}
 use Rattle.pieces.proofs.Pieces.{first, second, head, tail, then, step, one}
 use borrow.Author.Needs.{needs}
-use Rattle.codegen.proofs.access.emit_transport.Statement.{statement}
-use Rattle.codegen.proofs.access.emit_transport.Tie as tie
+use Rattle.pieces.proofs.steps.emit_transport.Statement.{statement}
+use Rattle.pieces.proofs.steps.emit_transport.Tie as tie
 
 emit-load-requires : tie.Need-emit-load-requires
 unfolding transport

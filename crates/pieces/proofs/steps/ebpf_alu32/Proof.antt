@@ -1,8 +1,8 @@
 -- One case an operator.
 use Rattle.pieces.specs.Fragments.{alu32-of}
 use borrow.Author.Needs.{needs}
-use Rattle.codegen.proofs.access.ebpf_alu32.Statement.{statement}
-use Rattle.codegen.proofs.access.ebpf_alu32.Tie as tie
+use Rattle.pieces.proofs.steps.ebpf_alu32.Statement.{statement}
+use Rattle.pieces.proofs.steps.ebpf_alu32.Tie as tie
 
 enum-told : tie.Need-enum-told
 enum-told c = search needs

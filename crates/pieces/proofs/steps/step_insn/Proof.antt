@@ -1,7 +1,7 @@
 -- The step, and its instruction.
 use borrow.Author.Needs.{needs}
-use Rattle.codegen.proofs.access.step_insn.Statement.{statement}
-use Rattle.codegen.proofs.access.step_insn.Tie as tie
+use Rattle.pieces.proofs.steps.step_insn.Statement.{statement}
+use Rattle.pieces.proofs.steps.step_insn.Tie as tie
 
 step-at-requires : tie.Need-step-at-requires
 step-at-requires c κs = search needs

@@ -15,20 +15,8 @@ PLAIN, MENDED = 0, 1
 
 K1 = K2 = write(IP)
 K5 = write(host4('either', A))
-K2_LISTING = """0 12
-6112000000000000
-6113040000000000
-bf25000000000000
-070500000e000000
-2d35050000000000
-69240c0000000000
-dc04000010000000
-5504020000080000
-b700000002000000
-9500000000000000
-b700000001000000
-9500000000000000
-"""
+with open(os.path.join(here, '../../crates/listing/stdout')) as file:
+    K2_LISTING = file.read()        # document 01's text, which the program listing is held to
 
 
 def fit(link, mode, tree):

@@ -2,27 +2,20 @@
 
 Each answer follows from a sentence of document 01, which stands beside it. DIR/stdin gets the cases, DIR/stdout the answers.
 """
+import os
 import struct
 import sys
 
-IP = bytes.fromhex('0000' '0001' '070001' + 21 * '00' + '0001' '00')
-K2 = '''0 12
-6112000000000000
-6113040000000000
-bf25000000000000
-070500000e000000
-2d35050000000000
-69240c0000000000
-dc04000010000000
-5504020000080000
-b700000002000000
-9500000000000000
-b700000001000000
-9500000000000000
-'''
+# Document 01's K2, `ip` on Ethernet in plain mode: the program listing's own input and what it must print.
+LISTING = os.path.join(os.path.dirname(os.path.abspath(__file__)), '../../crates/listing')
+with open(LISTING + '/stdin', 'rb') as file:
+    IP = file.read()[2:]
+with open(LISTING + '/stdout') as file:
+    K2 = file.read()
 
-# One byte access of one byte at 0, with n steps (add 0): L is 6 + 5 + n. 13,101 steps make a sheet of 65,536 bytes.
+
 def steps(n, more=b''):
+    """One byte access of one byte at 0, with n steps (add 0): L is 6 + 5 + n. 13,101 steps make a sheet of 65,536 bytes."""
     record = bytes([23]) + bytes(11) + struct.pack('>H', n) + bytes(10)
     return struct.pack('>H', n) + n * bytes(5) + struct.pack('>H', 1) + record + struct.pack('>H', 1) + b'\0' + more
 

@@ -7,7 +7,7 @@ use lib.ListN.{length, getD, drop}
 use Rattle.generator.specs.Compile.{Outcome, outcomeOf}
 use Rattle.generator.specs.Compile.Outcome.{early}
 
--- "Fewer than two bytes print `1 0`; past refusal 1, a longer sheet is refused 2": longer than 64 KiB.
+-- "Fewer than two bytes print `1 0`; past refusal 1, a longer sheet is refused 2": one of more than 65,536 bytes behind the first two.
 unfoldable pub listed : List ℕ → ℕ → ℕ → Outcome
 listed input output work =
     cond (ltb (length input) 2) (early 1 0)

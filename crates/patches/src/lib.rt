@@ -1,5 +1,5 @@
 // Patch bookkeeping of ebpf_codegen.rs: instructions with open jumps in lent bytes, the lists of these jumps and the
-// operators that wait in lent numbers. Seven functions are `pub`, for the crates of the generator: they show what it asks.
+// operators that wait in lent numbers. Seven functions are `pub`, for the crates of the generator; each caller shows what they ask.
 use ebpf::insn::Insn;
 ghost use mathlib.Core.Path.{_≡_};
 ghost use Prim.Native.Nat.{_+_, _*_, _^_, _<_, _≤_};

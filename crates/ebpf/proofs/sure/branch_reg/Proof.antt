@@ -1,0 +1,23 @@
+use borrow.Author.Needs.{needs}
+use Rattle.ebpf.proofs.sure.branch_reg.Statement.{statement}
+use Rattle.ebpf.proofs.sure.branch_reg.Tie as tie
+
+value-requires : tie.Need-value-requires
+value-requires c κs = search needs
+
+value-requires-2 : tie.Need-value-requires-2
+value-requires-2 c κs = search needs
+
+compare-requires : tie.Need-compare-requires
+compare-requires c κs = search needs
+
+branch-to-requires : tie.Need-branch-to-requires
+branch-to-requires c κs = search needs
+
+returns : tie.Need-returns
+returns c = simp (c .branch-to .ensures, c .before .compare .ensures, c .before .before .value2 .ensures, c .before .before .before .value .ensures)
+
+pub branch-reg-spec : {M : Type 1} → statement M
+branch-reg-spec =
+    tie.close
+    (tie.spec value-requires value-requires-2 compare-requires branch-to-requires returns)

@@ -1,0 +1,242 @@
+// The run of a program that is known to exit: no form, no register and no address is tested.
+use crate::act;
+use crate::act::Act;
+use crate::alu;
+use crate::insn;
+use crate::step;
+use crate::step::Status;
+ghost use mathlib.Core.Path.{_≡_};
+ghost use mathlib.Core.Bool.{Bool, cond};
+ghost use mathlib.Core.List.{List};
+ghost use Prim.Native.Nat.{_+_, _*_, _/_, _%_, _^_, _<_, _≤_};
+ghost use lib.ListN.{length, getD, set};
+ghost use lib.Dec.{eqb};
+ghost use Rattle.ebpf.specs.Insn.{insnAt};
+ghost use Rattle.ebpf.specs.Alu.{sext16, sext32, alu32, alu64, swapped, compares};
+ghost use Rattle.ebpf.specs.Form.{formOf};
+ghost use Rattle.ebpf.specs.Regs.{regsOf};
+ghost use Rattle.ebpf.specs.Step.{Width, leAt, contextAct, taken, actOf, placeAfter, statusOf};
+ghost use Rattle.ebpf.specs.Run.{runOf};
+ghost use Rattle.ebpf.specs.Sure.{Fine, Low, SureAct, valuesAfter, wordLoad};
+ghost use Rattle.ebpf.specs.declared.act.Act.the-variants.{Writes, Jumps, Halts};
+
+fn code_at(program: &[u8], at: usize) -> u8
+    requires { ⌜ at + 8 ≤ length (now program) ⌝ }
+    ensures { λ r. ⌜ r ≡ insnAt (now (program .entry)) at .code ⌝ }
+{
+    program[at]
+}
+
+fn regs_at(program: &[u8], at: usize) -> u8
+    requires { ⌜ at + 8 ≤ length (now program) ⌝ }
+    ensures { λ r. ⌜ r ≡ insnAt (now (program .entry)) at .regs ⌝ }
+{
+    program[at + 1]
+}
+
+fn off_at(program: &[u8], at: usize) -> u16
+    requires { ⌜ at + 8 ≤ length (now program) ⌝ }
+    ensures { λ r. ⌜ r ≡ insnAt (now (program .entry)) at .off ⌝ }
+{
+    insn::le16(program[at + 2], program[at + 3])
+}
+
+fn imm_at(program: &[u8], at: usize) -> u32
+    requires { ⌜ at + 8 ≤ length (now program) ⌝ }
+    ensures { λ r. ⌜ r ≡ insnAt (now (program .entry)) at .imm ⌝ }
+{
+    insn::le32(program[at + 4], program[at + 5], program[at + 6], program[at + 7])
+}
+
+fn value(values: &[u64], i: u8) -> u64
+    requires { ⌜ i < length (now values) ⌝ }
+    ensures { λ r. ⌜ r ≡ getD (now (values .entry)) i 0 ⌝ }
+{
+    values[i as usize]
+}
+
+fn write(values: &mut [u64], i: u8, v: u64)
+    requires { ⌜ i < length (now values) ⌝ }
+    ensures { λ r. ⌜ now (values .exit) ≡ set (now (values .entry)) i v ⌝ }
+{
+    values[i as usize] = v;
+}
+
+fn frame_load(size: u8, regs: u8, off: u16, frame: &[u8], values: &[u64]) -> Act
+    requires { ⌜ Width size × (regs / 16 < length (now values)) × ((getD (now values) (regs / 16) 0 + sext16 off) % 2 ^ 64 + size ≤ length (now frame)) ⌝ }
+    ensures { λ r. ⌜ r ≡ Writes (regs % 16) (leAt (now (frame .entry)) ((getD (now (values .entry)) (regs / 16) 0 + sext16 off) % 2 ^ 64) size) ⌝ }
+{
+    let p = std::num::wrapping_add_u64(value(values, regs / 16), alu::wide16(off));
+    Act::Writes {
+        dst: regs % 16,
+        value: act::word(frame, p as usize, size),
+    }
+}
+
+fn word_load(regs: u8, off: u16, frame: &[u8], values: &[u64]) -> Act
+    requires { ⌜ ((regs / 16 ≡ 1 → ⊥) → (regs / 16 < length (now values)) × ((getD (now values) (regs / 16) 0 + sext16 off) % 2 ^ 64 + 4 ≤ length (now frame))) ⌝ }
+    ensures { λ r. ⌜ r ≡ wordLoad (now (frame .entry)) (now (values .entry)) regs off ⌝ }
+{
+    if regs / 16 == 1 {
+        act::context_act(frame.len() as u64, 0, regs % 16, off)
+    } else {
+        frame_load(4, regs, off, frame, values)
+    }
+}
+
+fn reg64(operation: u8, regs: u8, values: &[u64]) -> Act
+    requires { ⌜ (regs % 16 < length (now values)) × (regs / 16 < length (now values)) ⌝ }
+    ensures { λ r. ⌜ r ≡ Writes (regs % 16) (alu64 operation (getD (now (values .entry)) (regs % 16) 0) (getD (now (values .entry)) (regs / 16) 0)) ⌝ }
+{
+    let a = value(values, regs % 16);
+    Act::Writes {
+        dst: regs % 16,
+        value: alu::op64(operation, a, value(values, regs / 16)),
+    }
+}
+
+fn imm64(operation: u8, regs: u8, imm: u32, values: &[u64]) -> Act
+    requires { ⌜ regs < length (now values) ⌝ }
+    ensures { λ r. ⌜ r ≡ Writes regs (alu64 operation (getD (now (values .entry)) regs 0) (sext32 imm)) ⌝ }
+{
+    Act::Writes {
+        dst: regs,
+        value: alu::op64(operation, value(values, regs), alu::wide32(imm)),
+    }
+}
+
+fn imm32(operation: u8, regs: u8, imm: u32, values: &[u64]) -> Act
+    requires { ⌜ regs < length (now values) ⌝ }
+    ensures { λ r. ⌜ r ≡ Writes regs (alu32 operation (getD (now (values .entry)) regs 0 % 2 ^ 32) imm) ⌝ }
+{
+    let v = alu::op32(operation, alu::low32(value(values, regs)), imm);
+    Act::Writes {
+        dst: regs,
+        value: v as u64,
+    }
+}
+
+fn swap_bytes(regs: u8, imm: u32, values: &[u64]) -> Act
+    requires { ⌜ regs < length (now values) ⌝ }
+    ensures { λ r. ⌜ r ≡ Writes regs (swapped imm (getD (now (values .entry)) regs 0)) ⌝ }
+{
+    Act::Writes {
+        dst: regs,
+        value: alu::swap(imm, value(values, regs)),
+    }
+}
+
+fn jump(off: u16) -> Act
+    ensures { λ r. ⌜ r ≡ Jumps off ⌝ }
+{
+    Act::Jumps { off }
+}
+
+fn branch(class: u8, operation: u8, regs: u8, off: u16, imm: u32, values: &[u64]) -> Act
+    requires { ⌜ regs < length (now values) ⌝ }
+    ensures { λ r. ⌜ r ≡ taken (cond (eqb class 5) (compares operation (getD (now (values .entry)) regs 0) (sext32 imm)) (compares operation (getD (now (values .entry)) regs 0 % 2 ^ 32) imm)) off ⌝ }
+{
+    let a = value(values, regs);
+    if class == 5 {
+        act::branch_to(alu::compare(operation, a, alu::wide32(imm)), off)
+    } else {
+        act::branch_to(alu::compare(operation, a % 0x1_0000_0000, imm as u64), off)
+    }
+}
+
+fn branch_reg(operation: u8, regs: u8, off: u16, values: &[u64]) -> Act
+    requires { ⌜ (regs % 16 < length (now values)) × (regs / 16 < length (now values)) ⌝ }
+    ensures { λ r. ⌜ r ≡ taken (compares operation (getD (now (values .entry)) (regs % 16) 0) (getD (now (values .entry)) (regs / 16) 0)) off ⌝ }
+{
+    let a = value(values, regs % 16);
+    act::branch_to(alu::compare(operation, a, value(values, regs / 16)), off)
+}
+
+fn leave(values: &[u64]) -> Act
+    requires { ⌜ 0 < length (now values) ⌝ }
+    ensures { λ r. ⌜ r ≡ Halts 0 (getD (now (values .entry)) 0 0) ⌝ }
+{
+    Act::Halts {
+        stop: 0,
+        r0: value(values, 0),
+    }
+}
+
+// What the instruction at byte `at` does, where it stops the machine for no fault.
+fn act_of(program: &[u8], at: usize, frame: &[u8], values: &[u64]) -> Act
+    requires { ⌜ (at + 8 ≤ length (now program)) × (length (now values) ≡ 7) × SureAct (now program) at (now frame) (now values) ⌝ }
+    ensures { λ r. ⌜ ((w : List Bool) → Fine (actOf (formOf (insnAt (now (program .entry)) at)) (now (frame .entry)) 0 (regsOf (now (values .entry)) w)) → r ≡ actOf (formOf (insnAt (now (program .entry)) at)) (now (frame .entry)) 0 (regsOf (now (values .entry)) w)) × Low r ⌝ }
+{
+    match code_at(program, at) {
+        0x61 => word_load(regs_at(program, at), off_at(program, at), frame, values),
+        0x69 => frame_load(2, regs_at(program, at), off_at(program, at), frame, values),
+        0x71 => frame_load(1, regs_at(program, at), off_at(program, at), frame, values),
+        0x0f => reg64(0, regs_at(program, at), values),
+        0x1f => reg64(1, regs_at(program, at), values),
+        0xbf => reg64(11, regs_at(program, at), values),
+        0x07 => imm64(0, regs_at(program, at), imm_at(program, at), values),
+        0xb7 => imm64(11, regs_at(program, at), imm_at(program, at), values),
+        0x04 => imm32(0, regs_at(program, at), imm_at(program, at), values),
+        0x14 => imm32(1, regs_at(program, at), imm_at(program, at), values),
+        0x24 => imm32(2, regs_at(program, at), imm_at(program, at), values),
+        0x34 => imm32(3, regs_at(program, at), imm_at(program, at), values),
+        0x44 => imm32(4, regs_at(program, at), imm_at(program, at), values),
+        0x54 => imm32(5, regs_at(program, at), imm_at(program, at), values),
+        0x64 => imm32(6, regs_at(program, at), imm_at(program, at), values),
+        0x74 => imm32(7, regs_at(program, at), imm_at(program, at), values),
+        0xa4 => imm32(10, regs_at(program, at), imm_at(program, at), values),
+        0xdc => swap_bytes(regs_at(program, at), imm_at(program, at), values),
+        0x05 => jump(off_at(program, at)),
+        0x15 => branch(5, 1, regs_at(program, at), off_at(program, at), imm_at(program, at), values),
+        0x25 => branch(5, 2, regs_at(program, at), off_at(program, at), imm_at(program, at), values),
+        0x35 => branch(5, 3, regs_at(program, at), off_at(program, at), imm_at(program, at), values),
+        0x45 => branch(5, 4, regs_at(program, at), off_at(program, at), imm_at(program, at), values),
+        0x55 => branch(5, 5, regs_at(program, at), off_at(program, at), imm_at(program, at), values),
+        0xa5 => branch(5, 10, regs_at(program, at), off_at(program, at), imm_at(program, at), values),
+        0xb5 => branch(5, 11, regs_at(program, at), off_at(program, at), imm_at(program, at), values),
+        0x16 => branch(6, 1, regs_at(program, at), off_at(program, at), imm_at(program, at), values),
+        0x26 => branch(6, 2, regs_at(program, at), off_at(program, at), imm_at(program, at), values),
+        0x36 => branch(6, 3, regs_at(program, at), off_at(program, at), imm_at(program, at), values),
+        0x46 => branch(6, 4, regs_at(program, at), off_at(program, at), imm_at(program, at), values),
+        0x56 => branch(6, 5, regs_at(program, at), off_at(program, at), imm_at(program, at), values),
+        0xa6 => branch(6, 10, regs_at(program, at), off_at(program, at), imm_at(program, at), values),
+        0xb6 => branch(6, 11, regs_at(program, at), off_at(program, at), imm_at(program, at), values),
+        0x2d => branch_reg(2, regs_at(program, at), off_at(program, at), values),
+        0x95 => leave(values),
+        _ => leave(values),
+    }
+}
+
+fn write_back(a: Act, values: &mut [u64])
+    requires { ⌜ (length (now values) ≡ 7) × Low a ⌝ }
+    ensures { λ r. ⌜ now (values .exit) ≡ valuesAfter a (now (values .entry)) ⌝ }
+{
+    match a {
+        Act::Writes { dst, value } => write(values, dst, value),
+        Act::Jumps { off: _ } => {}
+        Act::Falls => {}
+        Act::Halts { stop: _, r0: _ } => {}
+    }
+}
+
+// R0 of the program's run on the frame, which lies at 0, with a budget of as many steps as it has instructions.
+pub fn run_sure(program: &[u8], frame: &[u8]) -> u64
+    requires { ⌜ runOf (now program) (now frame) 0 (length (now program) / 8) .stop ≡ 0 ⌝ }
+    ensures { λ r. ⌜ r ≡ runOf (now (program .entry)) (now (frame .entry)) 0 (length (now (program .entry)) / 8) .r0 ⌝ }
+{
+    let mut values = [0u64; 7];
+    let mut pc: u64 = 0;
+    let mut n: u64 = 0;
+    loop {
+        let a = act_of(program, (pc * 8) as usize, frame, &values);
+        match step::status_of(a) {
+            Status::Going => {}
+            Status::Halted { stop: _, r0 } => {
+                return r0;
+            }
+        }
+        write_back(a, &mut values);
+        pc = step::place_after(a, pc);
+        n += 1;
+    }
+}

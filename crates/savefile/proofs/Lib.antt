@@ -1,0 +1,4 @@
+pub mod Walks
+pub mod Parts
+pub mod Examples
+pub mod Unique

@@ -4,7 +4,7 @@ use mathlib.Core.Path.{_≡_, refl, sym, ap, _∙_}
 use mathlib.Core.Bool.{Bool, true, false, cond}
 use mathlib.Core.List.{List, [], _∷_, _++_}
 use native.Mathlib.Omega.{arith}
-use borrow.Author.Tests.{lt-ltb, le-ltb}
+use borrow.Author.Tests.{eqb-true}
 use lib.ListN.{length}
 use lib.Dec.{T, eqb, ltb, ltb→lt, nltb→le}
 use Rattle.savefile.specs.Savefile.{nextOf, Rec, Walk, stays, after, onward, walkOf, fileWalk, counted}
@@ -62,3 +62,30 @@ pub counted-append : (f : Rec → Bool) (rs ts : List Rec) → counted f (rs ++ 
 unfolding counted
 counted-append f [] ts = omega arith
 counted-append f (r ∷ rs) ts = let h = counted-append f rs ts in omega (arith, h)
+
+-- THEOREM: a fault that a walk of any length meets from the first record on is the file's.
+module _ (big : Bool) (s : List ℕ) (long : 24 ≤ length s) where
+  abbrev Same : Walk → Walk → Type 0
+  Same v w = (v .fault ≡ w .fault) × (v .next ≡ w .next)
+
+  pub fault-is : (m : ℕ) → eqb (walkOf m big s 24 .fault) 0 ≡ false → Same (fileWalk big s) (walkOf m big s 24)
+  unfolding fileWalk
+  fault-is m bad = go (ltb (length s) m) refl
+    where
+      -- With more records than bytes the walk has ended before.
+      more : (k : ℕ) → m ≡ length s + k → (t : Bool) → eqb (walkOf (length s) big s 24 .fault) 0 ≡ t → Same (walkOf (length s) big s 24) (walkOf m big s 24)
+      more k e true f =
+          let n : walkOf (length s) big s 24 .next ≡ length s = through big s (length s) 24 long (omega arith) (eqb-true _ _ f) in
+          let p = walk-parts big s k (length s) 24 in
+          let z : walkOf m big s 24 .fault ≡ 0 = rw (e, p, f, n, walk-end k big s (length s) (omega arith)) refl in
+          let y : true ≡ false = rw z at bad in
+          absurd (let x : _≡_ {A = ℕ} 0 1 = cc in omega arith)
+      more k e false f = let p = walk-parts big s k (length s) 24 in rw (e, p, f) (refl, refl)
+
+      go : (t : Bool) → ltb (length s) m ≡ t → Same (walkOf (length s) big s 24) (walkOf m big s 24)
+      go true e = let h : length s < m = ltb→lt (length s) m (rw e tt) in more (m - length s) (omega arith) (eqb (walkOf (length s) big s 24 .fault) 0) refl
+      go false e =
+          let h : m ≤ length s = nltb→le (length s) m (rw e tt) in
+          let q : length s ≡ m + (length s - m) = omega arith in
+          let p : walkOf (length s) big s 24 ≡ walkOf m big s 24 = ap (λ (n : ℕ). walkOf n big s 24) q ∙ walk-parts big s (length s - m) m 24 ∙ rw bad refl in
+          (ap (λ (w : Walk). w .fault) p, ap (λ (w : Walk). w .next) p)

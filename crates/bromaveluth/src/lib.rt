@@ -104,13 +104,7 @@ pub extern "C" fn bromaveluth_capture_open(file: &[u8], answer: &mut u64) -> u8
 }
 
 // The counts, zero where refused, and beside them where to go on, or the refusal's place.
-fn tell(
-    told: Captured,
-    passed: &mut u64,
-    dropped: &mut u64,
-    cut: &mut u64,
-    answer: &mut u64,
-) -> u8
+fn tell(told: Captured, passed: &mut u64, dropped: &mut u64, cut: &mut u64, answer: &mut u64) -> u8
     ensures { λ r. ⌜ r ≡ capturedStatus told ⌝ }
     ensures { λ r. ⌜ now (passed .exit) ≡ passedCount told ⌝ }
     ensures { λ r. ⌜ now (dropped .exit) ≡ droppedCount told ⌝ }

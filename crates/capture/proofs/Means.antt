@@ -101,7 +101,7 @@ module _ (file sheet : List ℕ) (mode work : ℕ) (out : List ℕ) (bytes : Byt
       let P = programOf (outcomeOf sheet link mode (length out) work) in
       let w = walkOf (length file) big file 24 in
       let c : Counted (counted (isPassed P file) (w .records)) (counted (isDropped P file) (w .records)) (counted isCut (w .records)) (w .next) ≡ Counted passed dropped cut next =
-        rw (h .sound) at e in
+      rw (h .sound) at e in
       let ep : counted (isPassed P file) (w .records) ≡ passed = cc in
       let ed : counted (isDropped P file) (w .records) ≡ dropped = cc in
       let ec : counted isCut (w .records) ≡ cut = cc in

@@ -24,12 +24,27 @@ pub struct Tally {
 // A refusal, of the file with the byte where what is refused begins, or one of document 01's with its place; or the counts, and the
 // place behind the last record that was judged.
 pub enum Captured {
-    Refused { number: u8, place: usize },
-    Counted { passed: u64, dropped: u64, cut: u64, next: usize },
+    Refused {
+        number: u8,
+        place: usize,
+    },
+    Counted {
+        passed: u64,
+        dropped: u64,
+        cut: u64,
+        next: usize,
+    },
 }
 
 // The record whose captured bytes start at `from`, counted in its class.
-fn judge_record(file: &[u8], program: &[u8], from: usize, captured: u32, original: u32, t: Tally) -> Tally
+fn judge_record(
+    file: &[u8],
+    program: &[u8],
+    from: usize,
+    captured: u32,
+    original: u32,
+    t: Tally,
+) -> Tally
     requires { ⌜ (from + captured ≤ length (now file)) × (captured ≤ 16384) ⌝ }
     requires { ⌜ Always (now program) ⌝ }
     requires { ⌜ (t .passed + 1 < 2 ^ 64) × (t .dropped + 1 < 2 ^ 64) × (t .cut + 1 < 2 ^ 64) ⌝ }
@@ -141,7 +156,17 @@ pub fn capture_part(
     ensures { λ r. ⌜ now (work .exit) ≡ workIn (headerOf (now (file .entry))) (now (sheet .entry)) mode (length (now (output .entry))) (now (work .entry)) ⌝ }
 {
     match open_header(file) {
-        Opened::Capture { big, link } => judge_from(big, link, file, sheet, mode, output, work, at, most),
+        Opened::Capture { big, link } => judge_from(
+            big,
+            link,
+            file,
+            sheet,
+            mode,
+            output,
+            work,
+            at,
+            most,
+        ),
         Opened::Refused { number, place } => Captured::Refused { number, place },
     }
 }
@@ -153,7 +178,17 @@ pub fn capture(file: &[u8], sheet: &[u8], mode: u8, output: &mut [u8], work: &mu
     ensures { λ r. ⌜ now (work .exit) ≡ workIn (openedOf (now (file .entry))) (now (sheet .entry)) mode (length (now (output .entry))) (now (work .entry)) ⌝ }
 {
     match open_file(file) {
-        Opened::Capture { big, link } => judge_from(big, link, file, sheet, mode, output, work, 24, file.len() as u64),
+        Opened::Capture { big, link } => judge_from(
+            big,
+            link,
+            file,
+            sheet,
+            mode,
+            output,
+            work,
+            24,
+            file.len() as u64,
+        ),
         Opened::Refused { number, place } => Captured::Refused { number, place },
     }
 }

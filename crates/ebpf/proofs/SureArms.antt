@@ -14,7 +14,7 @@ use Rattle.ebpf.specs.Step.{leAt, taken, actOf}
 use Rattle.ebpf.specs.declared.insn.Insn.{Insn}
 use Rattle.ebpf.specs.declared.act.Act.{Act}
 use Rattle.ebpf.specs.declared.act.Act.the-variants.{Writes, Jumps, Falls, Halts}
-use Rattle.ebpf.specs.Sure.{Fine, Low, wordLoad}
+use Rattle.ebpf.specs.Sure.{Fine, Low, addressOf, sureLoad, sureWord, sureReg64, sureImm64, sureImm32, sureSwap, sureBranch, sureBranchReg}
 use Rattle.ebpf.proofs.SureRows.{imm64-row, reg64-row, imm32-row, swap-row, jump-row, branch-row, branch-reg-row, exit-row, load-row, word-row}
 
 taken-low : (b : Bool) (off : ℕ) → Low (taken b off)
@@ -22,61 +22,51 @@ taken-low true off = tt
 taken-low false off = tt
 
 module _ (F v : List ℕ) (w : List Bool) (i : Insn) (fine : Fine (actOf (formOf i) F 0 (regsOf v w))) where
+  -- The machine's own act, which writes no register past the seven.
   abbrev Is : Act → Type 0
   Is a = (a ≡ actOf (formOf i) F 0 (regsOf v w)) × Low a
 
   on : (x : Form) → formOf i ≡ x → Fine (actOf x F 0 (regsOf v w))
   on x e = subst (λ (y : Form). Fine (actOf y F 0 (regsOf v w))) e fine
 
-  pub imm64-arm : (op regs imm : ℕ) → formOf i ≡ imm64Form op (i .regs) (i .off) (i .imm) → regs ≡ i .regs → imm ≡ i .imm → (regs < 7) × ((a : Act) → a ≡ Writes regs (alu64 op (getD v regs 0) (sext32 imm)) → Is a)
-  imm64-arm op regs imm e e-regs e-imm =
-      let z = imm64-row F v w op (i .regs) (i .off) (i .imm) (on _ e) in
-      (rw (e-regs) (z .0), λ a ea. (ea ∙ rw (e-regs, e-imm, e) (sym (z .1)), rw (ea, e-regs) (z .0)))
+  pub imm64-arm : (op : ℕ) → formOf i ≡ imm64Form op (i .regs) (i .off) (i .imm) → (i .regs < 7) × Is (sureImm64 op i v)
+  unfolding sureImm64
+  imm64-arm op e = let z = imm64-row F v w op (i .regs) (i .off) (i .imm) (on _ e) in (z .0, (rw e (sym (z .1)), z .0))
 
-  pub imm32-arm : (op regs imm : ℕ) → formOf i ≡ imm32Form op (i .regs) (i .off) (i .imm) → regs ≡ i .regs → imm ≡ i .imm → (regs < 7) × ((a : Act) → a ≡ Writes regs (alu32 op (getD v regs 0 % 2 ^ 32) imm) → Is a)
-  imm32-arm op regs imm e e-regs e-imm =
-      let z = imm32-row F v w op (i .regs) (i .off) (i .imm) (on _ e) in
-      (rw (e-regs) (z .0), λ a ea. (ea ∙ rw (e-regs, e-imm, e) (sym (z .1)), rw (ea, e-regs) (z .0)))
+  pub imm32-arm : (op : ℕ) → formOf i ≡ imm32Form op (i .regs) (i .off) (i .imm) → (i .regs < 7) × Is (sureImm32 op i v)
+  unfolding sureImm32
+  imm32-arm op e = let z = imm32-row F v w op (i .regs) (i .off) (i .imm) (on _ e) in (z .0, (rw e (sym (z .1)), z .0))
 
-  pub reg64-arm : (op regs : ℕ) → formOf i ≡ reg64Form op (i .regs) (i .off) (i .imm) → regs ≡ i .regs → ((regs % 16 < 7) × (regs / 16 < 7)) × ((a : Act) → a ≡ Writes (regs % 16) (alu64 op (getD v (regs % 16) 0) (getD v (regs / 16) 0)) → Is a)
-  reg64-arm op regs e e-regs =
-      let z = reg64-row F v w op (i .regs) (i .off) (i .imm) (on _ e) in
-      (rw (e-regs) ((z .0, z .1)), λ a ea. (ea ∙ rw (e-regs, e) (sym (z .2)), rw (ea, e-regs) (z .0)))
+  pub swap-arm : formOf i ≡ swapForm (i .regs) (i .off) (i .imm) → (i .regs < 7) × Is (sureSwap i v)
+  unfolding sureSwap
+  swap-arm e = let z = swap-row F v w (i .regs) (i .off) (i .imm) (on _ e) in (z .0, (rw e (sym (z .1)), z .0))
 
-  pub swap-arm : (regs imm : ℕ) → formOf i ≡ swapForm (i .regs) (i .off) (i .imm) → regs ≡ i .regs → imm ≡ i .imm → (regs < 7) × ((a : Act) → a ≡ Writes regs (swapped imm (getD v regs 0)) → Is a)
-  swap-arm regs imm e e-regs e-imm =
-      let z = swap-row F v w (i .regs) (i .off) (i .imm) (on _ e) in
-      (rw (e-regs) (z .0), λ a ea. (ea ∙ rw (e-regs, e-imm, e) (sym (z .1)), rw (ea, e-regs) (z .0)))
+  pub reg64-arm : (op : ℕ) → formOf i ≡ reg64Form op (i .regs) (i .off) (i .imm) → ((i .regs % 16 < 7) × (i .regs / 16 < 7)) × Is (sureReg64 op i v)
+  unfolding sureReg64
+  reg64-arm op e = let z = reg64-row F v w op (i .regs) (i .off) (i .imm) (on _ e) in ((z .0, z .1), (rw e (sym (z .2)), z .0))
 
-  pub branch-arm : (class op regs off imm : ℕ) → formOf i ≡ branchForm class op (i .regs) (i .off) (i .imm) → regs ≡ i .regs → off ≡ i .off → imm ≡ i .imm → (regs < 7) × ((a : Act) → a ≡ taken (cond (eqb class 5) (compares op (getD v regs 0) (sext32 imm)) (compares op (getD v regs 0 % 2 ^ 32) imm)) off → Is a)
-  branch-arm class op regs off imm e e-regs e-off e-imm =
-      let z = branch-row F v w class op (i .regs) (i .off) (i .imm) (on _ e) in
-      (rw (e-regs) (z .0), λ a ea. (ea ∙ rw (e-regs, e-off, e-imm, e) (sym (z .1)), rw ea (taken-low (cond (eqb class 5) (compares op (getD v regs 0) (sext32 imm)) (compares op (getD v regs 0 % 2 ^ 32) imm)) off)))
+  pub branch-arm : (class op : ℕ) → formOf i ≡ branchForm class op (i .regs) (i .off) (i .imm) → (i .regs < 7) × Is (sureBranch class op i v)
+  unfolding sureBranch
+  branch-arm class op e = let z = branch-row F v w class op (i .regs) (i .off) (i .imm) (on _ e) in (z .0, (rw e (sym (z .1)), taken-low (cond (eqb class 5) (compares op (getD v (i .regs) 0) (sext32 (i .imm))) (compares op (getD v (i .regs) 0 % 2 ^ 32) (i .imm))) (i .off)))
 
-  pub branch-reg-arm : (op regs off : ℕ) → formOf i ≡ branchRegForm op (i .regs) (i .off) (i .imm) → regs ≡ i .regs → off ≡ i .off → ((regs % 16 < 7) × (regs / 16 < 7)) × ((a : Act) → a ≡ taken (compares op (getD v (regs % 16) 0) (getD v (regs / 16) 0)) off → Is a)
-  branch-reg-arm op regs off e e-regs e-off =
-      let z = branch-reg-row F v w op (i .regs) (i .off) (i .imm) (on _ e) in
-      (rw (e-regs) ((z .0, z .1)), λ a ea. (ea ∙ rw (e-regs, e-off, e) (sym (z .2)), rw ea (taken-low (compares op (getD v (regs % 16) 0) (getD v (regs / 16) 0)) off)))
+  pub branch-reg-arm : (op : ℕ) → formOf i ≡ branchRegForm op (i .regs) (i .off) (i .imm) → ((i .regs % 16 < 7) × (i .regs / 16 < 7)) × Is (sureBranchReg op i v)
+  unfolding sureBranchReg
+  branch-reg-arm op e = let z = branch-reg-row F v w op (i .regs) (i .off) (i .imm) (on _ e) in ((z .0, z .1), (rw e (sym (z .2)), taken-low (compares op (getD v (i .regs % 16) 0) (getD v (i .regs / 16) 0)) (i .off)))
 
-  pub jump-arm : (off : ℕ) → formOf i ≡ jumpForm (i .regs) (i .off) (i .imm) → off ≡ i .off → ((a : Act) → a ≡ Jumps off → Is a)
-  jump-arm off e e-off =
-      let z = jump-row F v w (i .regs) (i .off) (i .imm) (on _ e) in
-      λ a ea. (ea ∙ rw (e-off, e) (sym (z)), rw ea tt)
+  pub jump-arm : formOf i ≡ jumpForm (i .regs) (i .off) (i .imm) → Is (Jumps (i .off))
+  jump-arm e = (rw e (sym (jump-row F v w (i .regs) (i .off) (i .imm) (on _ e))), tt)
 
-  pub load-arm : (size regs off : ℕ) → eqb size 4 ≡ false → formOf i ≡ loadForm size (i .regs) (i .off) (i .imm) → regs ≡ i .regs → off ≡ i .off → ((regs / 16 < 7) × ((getD v (regs / 16) 0 + sext16 off) % 2 ^ 64 + size ≤ length F)) × ((a : Act) → a ≡ Writes (regs % 16) (leAt F ((getD v (regs / 16) 0 + sext16 off) % 2 ^ 64) size) → Is a)
-  load-arm size regs off small e e-regs e-off =
-      let z = load-row F v w size (i .regs) (i .off) (i .imm) small (on _ e) in
-      (rw (e-regs, e-off) ((z .1, z .2)), λ a ea. (ea ∙ rw (e-regs, e-off, e) (sym (z .3)), rw (ea, e-regs) (z .0)))
+  pub exit-arm : formOf i ≡ exitForm (i .regs) (i .off) (i .imm) → Is (Halts 0 (getD v 0 0))
+  exit-arm e = (rw e (sym (exit-row F v w (i .regs) (i .off) (i .imm) (on _ e))), tt)
 
-  pub word-arm : (regs off : ℕ) → formOf i ≡ loadForm 4 (i .regs) (i .off) (i .imm) → regs ≡ i .regs → off ≡ i .off → (((regs / 16 ≡ 1 → ⊥) → (regs / 16 < 7) × ((getD v (regs / 16) 0 + sext16 off) % 2 ^ 64 + 4 ≤ length F))) × ((a : Act) → a ≡ wordLoad F v regs off → Is a)
-  word-arm regs off e e-regs e-off =
-      let z = word-row F v w (i .regs) (i .off) (i .imm) (on _ e) in
-      (rw (e-regs, e-off) (z .0), λ a ea. (ea ∙ rw (e-regs, e-off, e) (sym (z .1)), rw (ea, e-regs, e-off) (z .2)))
+  pub load-arm : (size : ℕ) → eqb size 4 ≡ false → formOf i ≡ loadForm size (i .regs) (i .off) (i .imm)
+      → ((i .regs / 16 < 7) × (addressOf i v + size ≤ length F)) × Is (sureLoad size i F v)
+  unfolding sureLoad addressOf
+  load-arm size small e = let z = load-row F v w size (i .regs) (i .off) (i .imm) small (on _ e) in ((z .1, z .2), (rw e (sym (z .3)), z .0))
 
-  pub exit-arm : formOf i ≡ exitForm (i .regs) (i .off) (i .imm) → ((a : Act) → a ≡ Halts 0 (getD v 0 0) → Is a)
-  exit-arm e =
-      let z = exit-row F v w (i .regs) (i .off) (i .imm) (on _ e) in
-      λ a ea. (ea ∙ rw (e) (sym (z)), rw ea tt)
+  pub word-arm : formOf i ≡ loadForm 4 (i .regs) (i .off) (i .imm) → ((i .regs / 16 ≡ 1 → ⊥) → (i .regs / 16 < 7) × (addressOf i v + 4 ≤ length F)) × Is (sureWord i F v)
+  unfolding sureWord sureLoad addressOf
+  word-arm e = let z = word-row F v w (i .regs) (i .off) (i .imm) (on _ e) in (z .0, (rw e (sym (z .1)), z .2))
 
 -- The table's rows by opcode.
 module _ (i : Insn) where

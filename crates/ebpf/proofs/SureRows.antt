@@ -14,7 +14,7 @@ use Rattle.ebpf.specs.Regs.{regsOf, knownOf, valueOf}
 use Rattle.ebpf.specs.Step.{leAt, contextAct, frameAct, loadAct, readable, reg64Act, imm64Act, imm32Act, swapAct, branchAct, branchRegAct, exitAct, taken, actOf}
 use Rattle.ebpf.specs.declared.act.Act.{Act}
 use Rattle.ebpf.specs.declared.act.Act.the-variants.{Writes, Jumps, Falls, Halts}
-use Rattle.ebpf.specs.Sure.{Fine, Low, wordLoad}
+use Rattle.ebpf.specs.Sure.{Fine, Low}
 
 pub fine-if : (b : Bool) (a : Act) (s r0 : ℕ) → (s ≡ 0 → ⊥) → Fine (cond b a (Halts s r0)) → (b ≡ true) × Fine a
 fine-if true a s r0 ne h = (refl, h)
@@ -165,8 +165,10 @@ module _ (frame v : List ℕ) (w : List Bool) where
 
   pub word-row : (regs off imm : ℕ) → Fine (actOf (loadForm 4 regs off imm) frame 0 (regsOf v w))
       → ((regs / 16 ≡ 1 → ⊥) → (regs / 16 < 7) × ((getD v (regs / 16) 0 + sext16 off) % 2 ^ 64 + 4 ≤ length frame))
-      × (actOf (loadForm 4 regs off imm) frame 0 (regsOf v w) ≡ wordLoad frame v regs off) × Low (wordLoad frame v regs off)
-  unfolding loadForm actOf wordLoad
+      × (actOf (loadForm 4 regs off imm) frame 0 (regsOf v w)
+      ≡ cond (eqb (regs / 16) 1) (contextAct (length frame) 0 (regs % 16) off) (Writes (regs % 16) (leAt frame ((getD v (regs / 16) 0 + sext16 off) % 2 ^ 64) 4)))
+      × Low (cond (eqb (regs / 16) 1) (contextAct (length frame) 0 (regs % 16) off) (Writes (regs % 16) (leAt frame ((getD v (regs / 16) 0 + sext16 off) % 2 ^ 64) 4)))
+  unfolding loadForm actOf
   word-row regs off imm h =
       let a = fine-only (eqb imm 0) _ h in
       let b = fine-only (plain (regs % 16)) _ (a .1) in

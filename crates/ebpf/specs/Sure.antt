@@ -6,10 +6,11 @@ use mathlib.Core.List.{List}
 use lib.ListN.{length, getD, set}
 use lib.Dec.{eqb}
 use Rattle.ebpf.specs.Insn.{insnAt}
-use Rattle.ebpf.specs.Alu.{sext16}
+use Rattle.ebpf.specs.Alu.{sext16, sext32, alu32, alu64, swapped, compares}
 use Rattle.ebpf.specs.Form.{formOf}
 use Rattle.ebpf.specs.Regs.{regsOf}
-use Rattle.ebpf.specs.Step.{leAt, contextAct, actOf}
+use Rattle.ebpf.specs.Step.{leAt, contextAct, taken, actOf}
+use Rattle.ebpf.specs.declared.insn.Insn.{Insn}
 use Rattle.ebpf.specs.declared.act.Act.{Act}
 use Rattle.ebpf.specs.declared.act.Act.the-variants.{Writes, Jumps, Falls, Halts}
 
@@ -37,7 +38,31 @@ valuesAfter (Jumps off) values = values
 valuesAfter Falls values = values
 valuesAfter (Halts stop r0) values = values
 
-unfoldable pub wordLoad : List ℕ → List ℕ → ℕ → ℕ → Act
-wordLoad frame values regs off =
-    cond (eqb (regs / 16) 1) (contextAct (length frame) 0 (regs % 16) off)
-    (Writes (regs % 16) (leAt frame ((getD values (regs / 16) 0 + sext16 off) % 2 ^ 64) 4))
+-- What an instruction of each family does where nothing has to be asked, by the values of the registers.
+unfoldable pub addressOf : Insn → List ℕ → ℕ
+addressOf i values = (getD values (i .regs / 16) 0 + sext16 (i .off)) % 2 ^ 64
+
+unfoldable pub sureLoad : ℕ → Insn → List ℕ → List ℕ → Act
+sureLoad size i frame values = Writes (i .regs % 16) (leAt frame (addressOf i values) size)
+
+unfoldable pub sureWord : Insn → List ℕ → List ℕ → Act
+sureWord i frame values = cond (eqb (i .regs / 16) 1) (contextAct (length frame) 0 (i .regs % 16) (i .off)) (sureLoad 4 i frame values)
+
+unfoldable pub sureReg64 : ℕ → Insn → List ℕ → Act
+sureReg64 op i values = Writes (i .regs % 16) (alu64 op (getD values (i .regs % 16) 0) (getD values (i .regs / 16) 0))
+
+unfoldable pub sureImm64 : ℕ → Insn → List ℕ → Act
+sureImm64 op i values = Writes (i .regs) (alu64 op (getD values (i .regs) 0) (sext32 (i .imm)))
+
+unfoldable pub sureImm32 : ℕ → Insn → List ℕ → Act
+sureImm32 op i values = Writes (i .regs) (alu32 op (getD values (i .regs) 0 % 2 ^ 32) (i .imm))
+
+unfoldable pub sureSwap : Insn → List ℕ → Act
+sureSwap i values = Writes (i .regs) (swapped (i .imm) (getD values (i .regs) 0))
+
+unfoldable pub sureBranch : ℕ → ℕ → Insn → List ℕ → Act
+sureBranch class op i values =
+    taken (cond (eqb class 5) (compares op (getD values (i .regs) 0) (sext32 (i .imm))) (compares op (getD values (i .regs) 0 % 2 ^ 32) (i .imm))) (i .off)
+
+unfoldable pub sureBranchReg : ℕ → Insn → List ℕ → Act
+sureBranchReg op i values = taken (compares op (getD values (i .regs % 16) 0) (getD values (i .regs / 16) 0)) (i .off)

@@ -6,19 +6,18 @@ use crate::insn;
 use crate::step;
 use crate::step::Status;
 ghost use mathlib.Core.Path.{_≡_};
-ghost use mathlib.Core.Bool.{Bool, cond};
+ghost use mathlib.Core.Bool.{Bool};
 ghost use mathlib.Core.List.{List};
 ghost use Prim.Native.Nat.{_+_, _*_, _/_, _%_, _^_, _<_, _≤_};
 ghost use lib.ListN.{length, getD, set};
-ghost use lib.Dec.{eqb};
 ghost use Rattle.ebpf.specs.Insn.{insnAt};
-ghost use Rattle.ebpf.specs.Alu.{sext16, sext32, alu32, alu64, swapped, compares};
 ghost use Rattle.ebpf.specs.Form.{formOf};
 ghost use Rattle.ebpf.specs.Regs.{regsOf};
-ghost use Rattle.ebpf.specs.Step.{Width, leAt, contextAct, taken, actOf, placeAfter, statusOf};
+ghost use Rattle.ebpf.specs.Step.{Width, actOf};
 ghost use Rattle.ebpf.specs.Run.{runOf};
-ghost use Rattle.ebpf.specs.Sure.{Fine, Low, SureAct, valuesAfter, wordLoad};
-ghost use Rattle.ebpf.specs.declared.act.Act.the-variants.{Writes, Jumps, Halts};
+ghost use Rattle.ebpf.specs.Sure.{Fine, Low, SureAct, valuesAfter, addressOf, sureLoad, sureWord, sureReg64, sureImm64, sureImm32};
+ghost use Rattle.ebpf.specs.Sure.{sureSwap, sureBranch, sureBranchReg};
+ghost use Rattle.ebpf.specs.declared.act.Act.the-variants.{Jumps, Halts};
 
 fn code_at(program: &[u8], at: usize) -> u8
     requires { ⌜ at + 8 ≤ length (now program) ⌝ }
@@ -45,7 +44,12 @@ fn imm_at(program: &[u8], at: usize) -> u32
     requires { ⌜ at + 8 ≤ length (now program) ⌝ }
     ensures { λ r. ⌜ r ≡ insnAt (now (program .entry)) at .imm ⌝ }
 {
-    insn::le32(program[at + 4], program[at + 5], program[at + 6], program[at + 7])
+    insn::le32(
+        program[at + 4],
+        program[at + 5],
+        program[at + 6],
+        program[at + 7],
+    )
 }
 
 fn value(values: &[u64], i: u8) -> u64
@@ -62,10 +66,13 @@ fn write(values: &mut [u64], i: u8, v: u64)
     values[i as usize] = v;
 }
 
-fn frame_load(size: u8, regs: u8, off: u16, frame: &[u8], values: &[u64]) -> Act
-    requires { ⌜ Width size × (regs / 16 < length (now values)) × ((getD (now values) (regs / 16) 0 + sext16 off) % 2 ^ 64 + size ≤ length (now frame)) ⌝ }
-    ensures { λ r. ⌜ r ≡ Writes (regs % 16) (leAt (now (frame .entry)) ((getD (now (values .entry)) (regs / 16) 0 + sext16 off) % 2 ^ 64) size) ⌝ }
+fn frame_load(size: u8, program: &[u8], at: usize, frame: &[u8], values: &[u64]) -> Act
+    requires { ⌜ at + 8 ≤ length (now program) ⌝ }
+    requires { ⌜ Width size × (insnAt (now program) at .regs / 16 < length (now values)) × (addressOf (insnAt (now program) at) (now values) + size ≤ length (now frame)) ⌝ }
+    ensures { λ r. ⌜ r ≡ sureLoad size (insnAt (now (program .entry)) at) (now (frame .entry)) (now (values .entry)) ⌝ }
 {
+    let regs = regs_at(program, at);
+    let off = off_at(program, at);
     let p = std::num::wrapping_add_u64(value(values, regs / 16), alu::wide16(off));
     Act::Writes {
         dst: regs % 16,
@@ -73,21 +80,25 @@ fn frame_load(size: u8, regs: u8, off: u16, frame: &[u8], values: &[u64]) -> Act
     }
 }
 
-fn word_load(regs: u8, off: u16, frame: &[u8], values: &[u64]) -> Act
-    requires { ⌜ ((regs / 16 ≡ 1 → ⊥) → (regs / 16 < length (now values)) × ((getD (now values) (regs / 16) 0 + sext16 off) % 2 ^ 64 + 4 ≤ length (now frame))) ⌝ }
-    ensures { λ r. ⌜ r ≡ wordLoad (now (frame .entry)) (now (values .entry)) regs off ⌝ }
+fn word_load(program: &[u8], at: usize, frame: &[u8], values: &[u64]) -> Act
+    requires { ⌜ at + 8 ≤ length (now program) ⌝ }
+    requires { ⌜ ((insnAt (now program) at .regs / 16 ≡ 1 → ⊥) → (insnAt (now program) at .regs / 16 < length (now values)) × (addressOf (insnAt (now program) at) (now values) + 4 ≤ length (now frame))) ⌝ }
+    ensures { λ r. ⌜ r ≡ sureWord (insnAt (now (program .entry)) at) (now (frame .entry)) (now (values .entry)) ⌝ }
 {
+    let regs = regs_at(program, at);
     if regs / 16 == 1 {
-        act::context_act(frame.len() as u64, 0, regs % 16, off)
+        act::context_act(frame.len() as u64, 0, regs % 16, off_at(program, at))
     } else {
-        frame_load(4, regs, off, frame, values)
+        frame_load(4, program, at, frame, values)
     }
 }
 
-fn reg64(operation: u8, regs: u8, values: &[u64]) -> Act
-    requires { ⌜ (regs % 16 < length (now values)) × (regs / 16 < length (now values)) ⌝ }
-    ensures { λ r. ⌜ r ≡ Writes (regs % 16) (alu64 operation (getD (now (values .entry)) (regs % 16) 0) (getD (now (values .entry)) (regs / 16) 0)) ⌝ }
+fn reg64(operation: u8, program: &[u8], at: usize, values: &[u64]) -> Act
+    requires { ⌜ at + 8 ≤ length (now program) ⌝ }
+    requires { ⌜ (insnAt (now program) at .regs % 16 < length (now values)) × (insnAt (now program) at .regs / 16 < length (now values)) ⌝ }
+    ensures { λ r. ⌜ r ≡ sureReg64 operation (insnAt (now (program .entry)) at) (now (values .entry)) ⌝ }
 {
+    let regs = regs_at(program, at);
     let a = value(values, regs % 16);
     Act::Writes {
         dst: regs % 16,
@@ -95,48 +106,65 @@ fn reg64(operation: u8, regs: u8, values: &[u64]) -> Act
     }
 }
 
-fn imm64(operation: u8, regs: u8, imm: u32, values: &[u64]) -> Act
-    requires { ⌜ regs < length (now values) ⌝ }
-    ensures { λ r. ⌜ r ≡ Writes regs (alu64 operation (getD (now (values .entry)) regs 0) (sext32 imm)) ⌝ }
+fn imm64(operation: u8, program: &[u8], at: usize, values: &[u64]) -> Act
+    requires { ⌜ at + 8 ≤ length (now program) ⌝ }
+    requires { ⌜ insnAt (now program) at .regs < length (now values) ⌝ }
+    ensures { λ r. ⌜ r ≡ sureImm64 operation (insnAt (now (program .entry)) at) (now (values .entry)) ⌝ }
 {
+    let regs = regs_at(program, at);
+    let b = alu::wide32(imm_at(program, at));
     Act::Writes {
         dst: regs,
-        value: alu::op64(operation, value(values, regs), alu::wide32(imm)),
+        value: alu::op64(operation, value(values, regs), b),
     }
 }
 
-fn imm32(operation: u8, regs: u8, imm: u32, values: &[u64]) -> Act
-    requires { ⌜ regs < length (now values) ⌝ }
-    ensures { λ r. ⌜ r ≡ Writes regs (alu32 operation (getD (now (values .entry)) regs 0 % 2 ^ 32) imm) ⌝ }
+fn imm32(operation: u8, program: &[u8], at: usize, values: &[u64]) -> Act
+    requires { ⌜ at + 8 ≤ length (now program) ⌝ }
+    requires { ⌜ insnAt (now program) at .regs < length (now values) ⌝ }
+    ensures { λ r. ⌜ r ≡ sureImm32 operation (insnAt (now (program .entry)) at) (now (values .entry)) ⌝ }
 {
-    let v = alu::op32(operation, alu::low32(value(values, regs)), imm);
+    let regs = regs_at(program, at);
+    let v = alu::op32(
+        operation,
+        alu::low32(value(values, regs)),
+        imm_at(program, at),
+    );
     Act::Writes {
         dst: regs,
         value: v as u64,
     }
 }
 
-fn swap_bytes(regs: u8, imm: u32, values: &[u64]) -> Act
-    requires { ⌜ regs < length (now values) ⌝ }
-    ensures { λ r. ⌜ r ≡ Writes regs (swapped imm (getD (now (values .entry)) regs 0)) ⌝ }
+fn swap_bytes(program: &[u8], at: usize, values: &[u64]) -> Act
+    requires { ⌜ at + 8 ≤ length (now program) ⌝ }
+    requires { ⌜ insnAt (now program) at .regs < length (now values) ⌝ }
+    ensures { λ r. ⌜ r ≡ sureSwap (insnAt (now (program .entry)) at) (now (values .entry)) ⌝ }
 {
+    let regs = regs_at(program, at);
     Act::Writes {
         dst: regs,
-        value: alu::swap(imm, value(values, regs)),
+        value: alu::swap(imm_at(program, at), value(values, regs)),
     }
 }
 
-fn jump(off: u16) -> Act
-    ensures { λ r. ⌜ r ≡ Jumps off ⌝ }
+fn jump(program: &[u8], at: usize) -> Act
+    requires { ⌜ at + 8 ≤ length (now program) ⌝ }
+    ensures { λ r. ⌜ r ≡ Jumps (insnAt (now (program .entry)) at .off) ⌝ }
 {
-    Act::Jumps { off }
+    Act::Jumps {
+        off: off_at(program, at),
+    }
 }
 
-fn branch(class: u8, operation: u8, regs: u8, off: u16, imm: u32, values: &[u64]) -> Act
-    requires { ⌜ regs < length (now values) ⌝ }
-    ensures { λ r. ⌜ r ≡ taken (cond (eqb class 5) (compares operation (getD (now (values .entry)) regs 0) (sext32 imm)) (compares operation (getD (now (values .entry)) regs 0 % 2 ^ 32) imm)) off ⌝ }
+fn branch(class: u8, operation: u8, program: &[u8], at: usize, values: &[u64]) -> Act
+    requires { ⌜ at + 8 ≤ length (now program) ⌝ }
+    requires { ⌜ insnAt (now program) at .regs < length (now values) ⌝ }
+    ensures { λ r. ⌜ r ≡ sureBranch class operation (insnAt (now (program .entry)) at) (now (values .entry)) ⌝ }
 {
-    let a = value(values, regs);
+    let a = value(values, regs_at(program, at));
+    let off = off_at(program, at);
+    let imm = imm_at(program, at);
     if class == 5 {
         act::branch_to(alu::compare(operation, a, alu::wide32(imm)), off)
     } else {
@@ -144,12 +172,17 @@ fn branch(class: u8, operation: u8, regs: u8, off: u16, imm: u32, values: &[u64]
     }
 }
 
-fn branch_reg(operation: u8, regs: u8, off: u16, values: &[u64]) -> Act
-    requires { ⌜ (regs % 16 < length (now values)) × (regs / 16 < length (now values)) ⌝ }
-    ensures { λ r. ⌜ r ≡ taken (compares operation (getD (now (values .entry)) (regs % 16) 0) (getD (now (values .entry)) (regs / 16) 0)) off ⌝ }
+fn branch_reg(operation: u8, program: &[u8], at: usize, values: &[u64]) -> Act
+    requires { ⌜ at + 8 ≤ length (now program) ⌝ }
+    requires { ⌜ (insnAt (now program) at .regs % 16 < length (now values)) × (insnAt (now program) at .regs / 16 < length (now values)) ⌝ }
+    ensures { λ r. ⌜ r ≡ sureBranchReg operation (insnAt (now (program .entry)) at) (now (values .entry)) ⌝ }
 {
+    let regs = regs_at(program, at);
     let a = value(values, regs % 16);
-    act::branch_to(alu::compare(operation, a, value(values, regs / 16)), off)
+    act::branch_to(
+        alu::compare(operation, a, value(values, regs / 16)),
+        off_at(program, at),
+    )
 }
 
 fn leave(values: &[u64]) -> Act
@@ -168,40 +201,40 @@ fn act_of(program: &[u8], at: usize, frame: &[u8], values: &[u64]) -> Act
     ensures { λ r. ⌜ ((w : List Bool) → Fine (actOf (formOf (insnAt (now (program .entry)) at)) (now (frame .entry)) 0 (regsOf (now (values .entry)) w)) → r ≡ actOf (formOf (insnAt (now (program .entry)) at)) (now (frame .entry)) 0 (regsOf (now (values .entry)) w)) × Low r ⌝ }
 {
     match code_at(program, at) {
-        0x61 => word_load(regs_at(program, at), off_at(program, at), frame, values),
-        0x69 => frame_load(2, regs_at(program, at), off_at(program, at), frame, values),
-        0x71 => frame_load(1, regs_at(program, at), off_at(program, at), frame, values),
-        0x0f => reg64(0, regs_at(program, at), values),
-        0x1f => reg64(1, regs_at(program, at), values),
-        0xbf => reg64(11, regs_at(program, at), values),
-        0x07 => imm64(0, regs_at(program, at), imm_at(program, at), values),
-        0xb7 => imm64(11, regs_at(program, at), imm_at(program, at), values),
-        0x04 => imm32(0, regs_at(program, at), imm_at(program, at), values),
-        0x14 => imm32(1, regs_at(program, at), imm_at(program, at), values),
-        0x24 => imm32(2, regs_at(program, at), imm_at(program, at), values),
-        0x34 => imm32(3, regs_at(program, at), imm_at(program, at), values),
-        0x44 => imm32(4, regs_at(program, at), imm_at(program, at), values),
-        0x54 => imm32(5, regs_at(program, at), imm_at(program, at), values),
-        0x64 => imm32(6, regs_at(program, at), imm_at(program, at), values),
-        0x74 => imm32(7, regs_at(program, at), imm_at(program, at), values),
-        0xa4 => imm32(10, regs_at(program, at), imm_at(program, at), values),
-        0xdc => swap_bytes(regs_at(program, at), imm_at(program, at), values),
-        0x05 => jump(off_at(program, at)),
-        0x15 => branch(5, 1, regs_at(program, at), off_at(program, at), imm_at(program, at), values),
-        0x25 => branch(5, 2, regs_at(program, at), off_at(program, at), imm_at(program, at), values),
-        0x35 => branch(5, 3, regs_at(program, at), off_at(program, at), imm_at(program, at), values),
-        0x45 => branch(5, 4, regs_at(program, at), off_at(program, at), imm_at(program, at), values),
-        0x55 => branch(5, 5, regs_at(program, at), off_at(program, at), imm_at(program, at), values),
-        0xa5 => branch(5, 10, regs_at(program, at), off_at(program, at), imm_at(program, at), values),
-        0xb5 => branch(5, 11, regs_at(program, at), off_at(program, at), imm_at(program, at), values),
-        0x16 => branch(6, 1, regs_at(program, at), off_at(program, at), imm_at(program, at), values),
-        0x26 => branch(6, 2, regs_at(program, at), off_at(program, at), imm_at(program, at), values),
-        0x36 => branch(6, 3, regs_at(program, at), off_at(program, at), imm_at(program, at), values),
-        0x46 => branch(6, 4, regs_at(program, at), off_at(program, at), imm_at(program, at), values),
-        0x56 => branch(6, 5, regs_at(program, at), off_at(program, at), imm_at(program, at), values),
-        0xa6 => branch(6, 10, regs_at(program, at), off_at(program, at), imm_at(program, at), values),
-        0xb6 => branch(6, 11, regs_at(program, at), off_at(program, at), imm_at(program, at), values),
-        0x2d => branch_reg(2, regs_at(program, at), off_at(program, at), values),
+        0x61 => word_load(program, at, frame, values),
+        0x69 => frame_load(2, program, at, frame, values),
+        0x71 => frame_load(1, program, at, frame, values),
+        0x0f => reg64(0, program, at, values),
+        0x1f => reg64(1, program, at, values),
+        0xbf => reg64(11, program, at, values),
+        0x07 => imm64(0, program, at, values),
+        0xb7 => imm64(11, program, at, values),
+        0x04 => imm32(0, program, at, values),
+        0x14 => imm32(1, program, at, values),
+        0x24 => imm32(2, program, at, values),
+        0x34 => imm32(3, program, at, values),
+        0x44 => imm32(4, program, at, values),
+        0x54 => imm32(5, program, at, values),
+        0x64 => imm32(6, program, at, values),
+        0x74 => imm32(7, program, at, values),
+        0xa4 => imm32(10, program, at, values),
+        0xdc => swap_bytes(program, at, values),
+        0x05 => jump(program, at),
+        0x15 => branch(5, 1, program, at, values),
+        0x25 => branch(5, 2, program, at, values),
+        0x35 => branch(5, 3, program, at, values),
+        0x45 => branch(5, 4, program, at, values),
+        0x55 => branch(5, 5, program, at, values),
+        0xa5 => branch(5, 10, program, at, values),
+        0xb5 => branch(5, 11, program, at, values),
+        0x16 => branch(6, 1, program, at, values),
+        0x26 => branch(6, 2, program, at, values),
+        0x36 => branch(6, 3, program, at, values),
+        0x46 => branch(6, 4, program, at, values),
+        0x56 => branch(6, 5, program, at, values),
+        0xa6 => branch(6, 10, program, at, values),
+        0xb6 => branch(6, 11, program, at, values),
+        0x2d => branch_reg(2, program, at, values),
         0x95 => leave(values),
         _ => leave(values),
     }

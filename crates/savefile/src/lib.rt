@@ -137,7 +137,10 @@ fn open_records(file: &[u8], big: bool, link: u8) -> Opened
     let mut at: usize = 24;
     while at < n {
         match next_of(file, at, big) {
-            Next::Record { captured, original: _ } => {
+            Next::Record {
+                captured,
+                original: _,
+            } => {
                 at = at + 16 + captured as usize;
             }
             Next::Fault { number } => {

@@ -1,7 +1,6 @@
 -- In one byte order, in the other, or in none.
 use mathlib.Core.Path.{refl, sym, _∙_}
 use Rattle.savefile.specs.Savefile.{magicOf}
-
 use borrow.Author.Needs.{needs}
 use Rattle.savefile.proofs.magic_of.Statement.{statement}
 use Rattle.savefile.proofs.magic_of.Tie as tie

@@ -1,4 +1,5 @@
-// The run of a program that is known to exit: no form, no register and no address is tested.
+// The run of a program that is known to exit: no form, no register and no address is tested, since a test that failed would have
+// stopped it. Each family of opcodes reads the fields that it needs, and no others.
 use crate::act;
 use crate::act::Act;
 use crate::alu;
@@ -19,6 +20,7 @@ ghost use Rattle.ebpf.specs.Sure.{Fine, Low, SureAct, valuesAfter, addre
 ghost use Rattle.ebpf.specs.Sure.{sureSwap, sureBranch, sureBranchReg};
 ghost use Rattle.ebpf.specs.declared.act.Act.the-variants.{Jumps, Halts};
 
+// The fields of the instruction at byte `at`.
 fn code_at(program: &[u8], at: usize) -> u8
     requires { ⌜ at + 8 ≤ length (now program) ⌝ }
     ensures { λ r. ⌜ r ≡ insnAt (now (program .entry)) at .code ⌝ }
@@ -52,6 +54,7 @@ fn imm_at(program: &[u8], at: usize) -> u32
     )
 }
 
+// The value of a register that is one of the seven.
 fn value(values: &[u64], i: u8) -> u64
     requires { ⌜ i < length (now values) ⌝ }
     ensures { λ r. ⌜ r ≡ getD (now (values .entry)) i 0 ⌝ }
@@ -66,6 +69,7 @@ fn write(values: &mut [u64], i: u8, v: u64)
     values[i as usize] = v;
 }
 
+// A load from the frame, which lies at 0.
 fn frame_load(size: u8, program: &[u8], at: usize, frame: &[u8], values: &[u64]) -> Act
     requires { ⌜ at + 8 ≤ length (now program) ⌝ }
     requires { ⌜ Width size × (insnAt (now program) at .regs / 16 < length (now values)) × (addressOf (insnAt (now program) at) (now values) + size ≤ length (now frame)) ⌝ }
@@ -80,6 +84,7 @@ fn frame_load(size: u8, program: &[u8], at: usize, frame: &[u8], values: &[u64])
     }
 }
 
+// A load of a word: from the context if R1 is its base.
 fn word_load(program: &[u8], at: usize, frame: &[u8], values: &[u64]) -> Act
     requires { ⌜ at + 8 ≤ length (now program) ⌝ }
     requires { ⌜ ((insnAt (now program) at .regs / 16 ≡ 1 → ⊥) → (insnAt (now program) at .regs / 16 < length (now values)) × (addressOf (insnAt (now program) at) (now values) + 4 ≤ length (now frame))) ⌝ }
@@ -93,6 +98,7 @@ fn word_load(program: &[u8], at: usize, frame: &[u8], values: &[u64]) -> Act
     }
 }
 
+// 64-bit arithmetic with a register.
 fn reg64(operation: u8, program: &[u8], at: usize, values: &[u64]) -> Act
     requires { ⌜ at + 8 ≤ length (now program) ⌝ }
     requires { ⌜ (insnAt (now program) at .regs % 16 < length (now values)) × (insnAt (now program) at .regs / 16 < length (now values)) ⌝ }
@@ -106,6 +112,7 @@ fn reg64(operation: u8, program: &[u8], at: usize, values: &[u64]) -> Act
     }
 }
 
+// 64-bit arithmetic with an immediate.
 fn imm64(operation: u8, program: &[u8], at: usize, values: &[u64]) -> Act
     requires { ⌜ at + 8 ≤ length (now program) ⌝ }
     requires { ⌜ insnAt (now program) at .regs < length (now values) ⌝ }
@@ -119,6 +126,7 @@ fn imm64(operation: u8, program: &[u8], at: usize, values: &[u64]) -> Act
     }
 }
 
+// 32-bit arithmetic with an immediate.
 fn imm32(operation: u8, program: &[u8], at: usize, values: &[u64]) -> Act
     requires { ⌜ at + 8 ≤ length (now program) ⌝ }
     requires { ⌜ insnAt (now program) at .regs < length (now values) ⌝ }
@@ -136,6 +144,7 @@ fn imm32(operation: u8, program: &[u8], at: usize, values: &[u64]) -> Act
     }
 }
 
+// Byte swaps to big-endian.
 fn swap_bytes(program: &[u8], at: usize, values: &[u64]) -> Act
     requires { ⌜ at + 8 ≤ length (now program) ⌝ }
     requires { ⌜ insnAt (now program) at .regs < length (now values) ⌝ }
@@ -148,6 +157,7 @@ fn swap_bytes(program: &[u8], at: usize, values: &[u64]) -> Act
     }
 }
 
+// The jump that is always taken.
 fn jump(program: &[u8], at: usize) -> Act
     requires { ⌜ at + 8 ≤ length (now program) ⌝ }
     ensures { λ r. ⌜ r ≡ Jumps (insnAt (now (program .entry)) at .off) ⌝ }
@@ -157,6 +167,7 @@ fn jump(program: &[u8], at: usize) -> Act
     }
 }
 
+// Jumps that compare with an immediate.
 fn branch(class: u8, operation: u8, program: &[u8], at: usize, values: &[u64]) -> Act
     requires { ⌜ at + 8 ≤ length (now program) ⌝ }
     requires { ⌜ insnAt (now program) at .regs < length (now values) ⌝ }
@@ -172,6 +183,7 @@ fn branch(class: u8, operation: u8, program: &[u8], at: usize, values: &[u64]) -
     }
 }
 
+// Jumps that compare with a register.
 fn branch_reg(operation: u8, program: &[u8], at: usize, values: &[u64]) -> Act
     requires { ⌜ at + 8 ≤ length (now program) ⌝ }
     requires { ⌜ (insnAt (now program) at .regs % 16 < length (now values)) × (insnAt (now program) at .regs / 16 < length (now values)) ⌝ }
@@ -185,6 +197,7 @@ fn branch_reg(operation: u8, program: &[u8], at: usize, values: &[u64]) -> Act
     )
 }
 
+// The exit.
 fn leave(values: &[u64]) -> Act
     requires { ⌜ 0 < length (now values) ⌝ }
     ensures { λ r. ⌜ r ≡ Halts 0 (getD (now (values .entry)) 0 0) ⌝ }
@@ -240,6 +253,7 @@ fn act_of(program: &[u8], at: usize, frame: &[u8], values: &[u64]) -> Act
     }
 }
 
+// The registers after it.
 fn write_back(a: Act, values: &mut [u64])
     requires { ⌜ (length (now values) ≡ 7) × Low a ⌝ }
     ensures { λ r. ⌜ now (values .exit) ≡ valuesAfter a (now (values .entry)) ⌝ }

@@ -242,15 +242,28 @@ impl Record<'_> {
     }
 }
 
-/// The records of a file, in file order; of a file that [`open`] refuses, those before what is refused (none if that is the header's
-/// magic or length).
+/// How the numbers of a file are read; none if its magic is unknown.
+fn order(file: &[u8]) -> Option<fn([u8; 4]) -> u32> {
+    match file.first_chunk()? {
+        [0xa1, 0xb2, 0xc3, 0xd4] | [0xa1, 0xb2, 0x3c, 0x4d] => Some(u32::from_be_bytes),
+        [0xd4, 0xc3, 0xb2, 0xa1] | [0x4d, 0x3c, 0xb2, 0xa1] => Some(u32::from_le_bytes),
+        _ => None,
+    }
+}
+
+/// The link type that a file's header names, also one that is refused (41); none if the magic is unknown or the header cut.
+pub fn link_type(file: &[u8]) -> Option<u32> {
+    let header = file.first_chunk::<HEADER>()?;
+    order(file).map(|number| number([header[20], header[21], header[22], header[23]]))
+}
+
+/// The records of a file, in file order. Of a file that [`open`] refuses for a record, those before it; for its magic or for the end of its
+/// header, none.
 pub fn records(file: &[u8]) -> Records<'_> {
-    let number = match file.first_chunk() {
-        Some([0xa1, 0xb2, 0xc3, 0xd4] | [0xa1, 0xb2, 0x3c, 0x4d]) => u32::from_be_bytes,
-        Some([0xd4, 0xc3, 0xb2, 0xa1] | [0x4d, 0x3c, 0xb2, 0xa1]) => u32::from_le_bytes,
-        _ => return Records { file: &[], at: 0, number: u32::from_be_bytes },
-    };
-    Records { file, at: HEADER, number }
+    match order(file) {
+        Some(number) => Records { file, at: HEADER, number },
+        None => Records { file: &[], at: HEADER, number: u32::from_be_bytes },
+    }
 }
 
 /// See [`records`].

@@ -6,8 +6,8 @@
  *
  * What a caller owes, since C cannot be asked to prove it:
  * - a pointer and the count behind it name memory of so many elements, aligned for its type; where the count is 0, nothing is read or
- *   written through the pointer, and it may be NULL. The pointers without a count (answer, r0, steps, passed, dropped, cut, place) point to
- *   one number each.
+ *   written through the pointer, and it may be NULL. The pointers without a count (answer, r0, steps, passed, dropped, cut) point to one
+ *   number each.
  * - what a function writes overlaps nothing else that the call is lent; until it returns, no other thread writes what is lent or reads
  *   what the function writes.
  * Beyond that any bytes, numbers and counts may be passed. No function keeps a pointer, allocates, or calls anything of the C library
@@ -96,20 +96,22 @@ uint8_t bromaveluth_run(const uint8_t *program, size_t program_bytes, const uint
  * for a record. Nothing else is written. */
 uint8_t bromaveluth_capture_open(const uint8_t *file, size_t file_bytes, uint64_t *answer);
 
-/* Compiles a sheet for the link that a capture picks and runs the program on every record that is not cut. Returns 0 and how many
- * frames passed, were dropped and were cut; these add up to the records of the file, and *place is 0. Else a refusal, its place in
- * *place and three zeros: 40 to 43 first, through the whole file, which leave output and work as they were; then 1 to 8 and 10 to 19,
- * as bromaveluth_compile gives them and with output and work as it leaves them. A frame passes exactly when the sheet's expression holds on
- * it; in plain mode for sheets whose comparison constants are all below 2^31. Nothing else is written. */
+/* Compiles a sheet for the link that a capture picks and runs the program on every record that is not cut. Returns 0, how many frames
+ * passed, were dropped and were cut, which add up to the records of the file, and in *answer file_bytes. Else a refusal, its place in
+ * *answer and three zeros: 40 to 43 first, through the whole file, which leave output and work as they were; then 1 to 8 and 10 to 19, as
+ * bromaveluth_compile gives them. Except after 40 to 43 output and work are as bromaveluth_compile leaves them. A frame passes exactly when
+ * the sheet's expression holds on it; in plain mode for sheets whose comparison constants are all below 2^31. Nothing else is written. */
 uint8_t bromaveluth_capture(const uint8_t *file, size_t file_bytes, const uint8_t *sheet, size_t sheet_bytes, uint8_t mode,
                             uint8_t *output, size_t output_bytes, uint32_t *work, size_t work_numbers, uint64_t *passed,
-                            uint64_t *dropped, uint64_t *cut, uint64_t *place);
+                            uint64_t *dropped, uint64_t *cut, uint64_t *answer);
 
 /* A part of the same: after the file's header (40, 42, 41) the sheet is compiled (1 to 8, 10 to 19), then at most `most` records from the
  * byte `at` on are judged; 24 is where the first one begins. Returns 0, the counts of these records and in *answer the byte where to go on,
  * which is file_bytes when the file is through. Else a refusal, its place in *answer and three zeros; 42 and 43 are given when such a
- * record is met. Parts that go on where the last one ended add up to what bromaveluth_capture answers. A part can refuse the sheet before
- * a fault of a later record is met: a caller who gets a refusal below 40 asks bromaveluth_capture_open, whose refusal comes first. */
+ * record is met. Except after a refusal of the header, which leaves them as they were, output and work are as bromaveluth_compile leaves
+ * them. Parts that begin at 24 and go on where the last one ended add up to what bromaveluth_capture answers; from another byte on, what
+ * stands there is taken for a record, and at or past the end there is none and *answer is at. A part can refuse the sheet before a
+ * fault of a later record is met: a caller who gets a refusal below 40 asks bromaveluth_capture_open, whose refusal comes first. */
 uint8_t bromaveluth_capture_part(const uint8_t *file, size_t file_bytes, const uint8_t *sheet, size_t sheet_bytes, uint8_t mode,
                                  uint8_t *output, size_t output_bytes, uint32_t *work, size_t work_numbers, uint64_t at,
                                  uint64_t most, uint64_t *passed, uint64_t *dropped, uint64_t *cut, uint64_t *answer);

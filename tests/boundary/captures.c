@@ -133,7 +133,7 @@ static void opens(void)
             SAME(opened(bytes), 0);
             SAME(answer, BROMAVELUTH_ETHERNET);
             SAME(captured(bytes, ip, IP_SHEET, BROMAVELUTH_PLAIN, ROOM, ROOM), 0);
-            SAME(answer, 0);
+            SAME(answer, bytes);
             counts(__LINE__, FOUR_PASSED, FOUR_DROPPED, FOUR_CUT);
             compiled(__LINE__);
             four(nano ? NANO : MICRO, RAW_TYPE);
@@ -141,7 +141,7 @@ static void opens(void)
             SAME(answer, BROMAVELUTH_RAW_IP);
             /* on RawIp `ip` is true, K1: six instructions */
             SAME(captured(bytes, ip, IP_SHEET, BROMAVELUTH_MENDED, 48, 14), 0);
-            SAME(answer, 0);
+            SAME(answer, bytes);
             counts(__LINE__, 3, 0, 1);
             zeroed_work(__LINE__, 14);
             untouched(__LINE__, 48, 14);
@@ -195,7 +195,7 @@ static void refuses_ends(void)
                 SAME(opened(n), 0);
                 SAME(answer, BROMAVELUTH_ETHERNET);
                 SAME(captured(n, ip, IP_SHEET, BROMAVELUTH_PLAIN, ROOM, ROOM), 0);
-                SAME(answer, 0);
+                SAME(answer, n);
                 counts(__LINE__, sums[whole][0], sums[whole][1], sums[whole][2]);
                 compiled(__LINE__);
                 whole++;
@@ -303,6 +303,32 @@ static void refuses_sheets(void)
     untouched(__LINE__, 48, 14);
 }
 
+/* From a byte where no record begins what stands there is taken for one; past the end there is none, and nothing is read there. */
+static void counts_from_anywhere(void)
+{
+    static const uint64_t past[4] = {41, 1000, UINT64_MAX - 15, UINT64_MAX};
+    big = 1;
+    begin(MICRO, ETHERNET_TYPE);
+    memset(file + 4, 0, 16);
+    memset(file + HEADER, 0, RECORD);
+    bytes = HEADER + RECORD;
+    for (int i = 0; i < 4; i++) {
+        SAME(part(bytes, ip, IP_SHEET, BROMAVELUTH_PLAIN, past[i], 2), 0);
+        SAME(answer, past[i]);
+        counts(__LINE__, 0, 0, 0);
+        compiled(__LINE__);
+    }
+    for (uint64_t at = 25; at < 40; at++) {
+        SAME(part(bytes, ip, IP_SHEET, BROMAVELUTH_PLAIN, at, 1), BROMAVELUTH_FILE_ENDS);
+        SAME(answer, at);
+        counts(__LINE__, 0, 0, 0);
+    }
+    /* the link type, 1, as an original length above nothing captured: cut; then the record, an empty frame */
+    SAME(part(bytes, ip, IP_SHEET, BROMAVELUTH_PLAIN, 8, 2), 0);
+    SAME(answer, bytes);
+    counts(__LINE__, 0, 1, 1);
+}
+
 /* Parts of so many records each: where each ends, and what they add up to. */
 static void adds_up(uint64_t most)
 {
@@ -347,6 +373,7 @@ static void counts_parts(void)
         SAME(part(bytes, ip, IP_SHEET, BROMAVELUTH_PLAIN, HEADER, 5), BROMAVELUTH_CAPTURED_LENGTH);
         SAME(answer, four_starts[4]);
         counts(__LINE__, 0, 0, 0);
+        compiled(__LINE__);
         SAME(part(bytes - 1, ip, IP_SHEET, BROMAVELUTH_PLAIN, four_starts[4], 1), BROMAVELUTH_FILE_ENDS);
         SAME(answer, four_starts[4]);
         counts(__LINE__, 0, 0, 0);
@@ -394,5 +421,6 @@ void captures(void)
     tells_cut();
     refuses_sheets();
     counts_parts();
+    counts_from_anywhere();
     counts_nothing();
 }

@@ -33,7 +33,7 @@ extern "C" {
         passed: *mut u64,
         dropped: *mut u64,
         cut: *mut u64,
-        place: *mut u64,
+        answer: *mut u64,
     ) -> u8;
     fn bromaveluth_capture_part(
         file: *const u8,
@@ -110,7 +110,7 @@ pub fn capture(file: &[u8], sheet: &[u8], mode: Mode) -> Result<Counts, Refused>
 /// Counts a whole file, in lent buffers: 40 to 43 come first and leave them as they were, the sheet's refusals and the counts leave
 /// them as [`compile`](crate::compile) does.
 pub fn capture_in(file: &[u8], sheet: &[u8], mode: Mode, output: &mut [u8], work: &mut [u32]) -> Result<Counts, Refused> {
-    let (mut counts, mut place) = (Counts::default(), 0);
+    let (mut counts, mut answer) = (Counts::default(), 0);
     // SAFETY: each pointer and count come from a slice or a number that is borrowed for the call; two mutable borrows never overlap.
     let status = unsafe {
         bromaveluth_capture(
@@ -126,12 +126,12 @@ pub fn capture_in(file: &[u8], sheet: &[u8], mode: Mode, output: &mut [u8], work
             &mut counts.passed,
             &mut counts.dropped,
             &mut counts.cut,
-            &mut place,
+            &mut answer,
         )
     };
     match status {
         0 => Ok(counts),
-        number => Err(Refused::told(number, place)),
+        number => Err(Refused::told(number, answer)),
     }
 }
 
@@ -147,7 +147,8 @@ pub struct Part {
 /// Counts at most `most` records from the byte `at` on, in lent buffers; the first record begins at [`HEADER`].
 ///
 /// The file's header is looked at first (40, 42, 41), then the sheet is compiled, then records are walked; their 42 and 43 are given
-/// when they are met. So a sheet can be refused before a fault of a later record is met, which comes first for the whole file; [`Parts`]
+/// when they are met. From a byte where no record begins, what stands there is taken for one; at or past the end there is none, and
+/// [`Part::next`] is `at`. A sheet can be refused before a fault of a later record is met, which comes first for the whole file; [`Parts`]
 /// puts that right.
 pub fn capture_part(
     file: &[u8],

@@ -37,6 +37,14 @@ def ipv4(source, protocol=17, ports=(1000, 53)):
     return bytes(head) + struct.pack('>HH', *ports) + bytes(8)
 
 
+def site():
+    """The capture of command/README.md: two questions to a name server, a word to a controller, an ARP, and a long frame that was cut."""
+    ip = bytes(12) + b'\x08\0'
+    asked, told = ipv4(bytes([10, 0, 0, 1])), ipv4(bytes([10, 0, 0, 7]), 6, (40000, 502))
+    frames = [ip + asked, ip + told, ethernet(0x0806), ip + asked]
+    return capture([(f, len(f)) for f in frames] + [(ip + asked, 1514)])
+
+
 def classes(records, sheet, link):
     """Which of (frame, original length) pairs pass, are dropped, are cut: three lists of frames, by model.py."""
     passed, dropped, cut = [], [], []

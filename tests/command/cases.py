@@ -367,14 +367,22 @@ def signals():
     same('a file that is cut meanwhile', (at_work.returncode, out, err), (
         3, b'', b'bromaveluth: a file was cut by somebody else while it was read; there is no answer for it\n'))
     zeros('long.pcap', 1 << 20)
-    before = os.listdir('.')
-    at_work = subprocess.Popen([COMMAND, 'capture', SLOW, 'long.pcap', '--dropped', 'cancelled.pcap'], stdout=subprocess.PIPE, stderr=subprocess.PIPE)
-    same('the new file has another name at first', waited(lambda: set(os.listdir('.')) != set(before)), True)
+    for number in (signal.SIGINT, signal.SIGTERM, signal.SIGHUP):
+        same('signal %d' % number, interrupted(number, signal.SIG_DFL), (-number, set()))
+    # One that whoever started the command wants ignored stays so, as of a job in the background.
+    same('an ignored one', interrupted(signal.SIGINT, signal.SIG_IGN), (0, {'cancelled.pcap'}))
+
+
+def interrupted(number, disposition):
+    """Exit code of a command that gets a signal while it writes a new capture, and what it leaves behind."""
+    before = set(os.listdir('.'))
+    at_work = subprocess.Popen([COMMAND, 'capture', SLOW, 'long.pcap', '--dropped', 'cancelled.pcap'], stdout=subprocess.DEVNULL,
+                               stderr=subprocess.DEVNULL, preexec_fn=lambda: signal.signal(number, disposition))
+    same('the new file has another name at first', waited(lambda: set(os.listdir('.')) != before), True)
     same('which is not the last one', 'cancelled.pcap' in os.listdir('.'), False)
-    at_work.send_signal(signal.SIGINT)
-    out, err = at_work.communicate()
-    same('an interrupt', (at_work.returncode, out, err), (-signal.SIGINT, b'', b''))
-    same('leaves nothing behind', set(os.listdir('.')) ^ set(before), set())
+    at_work.send_signal(number)
+    at_work.communicate()
+    return at_work.returncode, set(os.listdir('.')) ^ before
 
 
 def on_terminal(*words):
@@ -409,12 +417,26 @@ def progress():
     os.unlink('long.pcap')
 
 
+def readme():
+    """The commands of command/README.md answer what stands under them there."""
+    put('site.pcap', c.site())
+    put('cooked.pcap', c.header(link_type=113))
+    with open(os.path.join(HERE, '../../command/README.md'), encoding='utf-8') as f:
+        lines = [line[4:] for line in f.read().split('\n') if line.startswith('    ')]
+    places = [i for i, line in enumerate(lines) if line.startswith('$ bromaveluth ')]
+    same('there are examples', len(places) > 3, True)
+    path = os.path.dirname(COMMAND) + ':' + os.environ['PATH']
+    for i, end in zip(places, places[1:] + [len(lines)]):
+        ran = subprocess.run(['sh', '-c', lines[i][2:]], stdout=subprocess.PIPE, stderr=subprocess.STDOUT, env={**os.environ, 'PATH': path})
+        same(lines[i], ran.stdout.decode().split('\n'), lines[i + 1:end] + [''])
+
+
 def main():
     with tempfile.TemporaryDirectory() as folder:
         os.chmod(folder, 0o755)
         os.chdir(folder)
         for part in (usage, counts, filters, long_filters, refused_filters, refused_files, every_cut, unread, pipes, shapes, against_model,
-                     new_captures, signals, progress):
+                     new_captures, signals, progress, readme):
             part()
         os.chdir('/')
     print('%d passed, %d failed' % (passed, failed))

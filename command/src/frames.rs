@@ -48,7 +48,9 @@ impl New {
         let file = match OpenOptions::new().write(true).create_new(true).open(&temporary) {
             Ok(file) => file,
             Err(error) => {
-                slot.map(endings::forget);
+                if let Some(slot) = slot {
+                    endings::forget(slot);
+                }
                 return Err(cannot(if error.kind() == ErrorKind::AlreadyExists { &temporary } else { path }, &error));
             }
         };

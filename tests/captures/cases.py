@@ -64,25 +64,13 @@ def of_part(mode, sheet, file, at, most):
     return judged(header[1], sheet, walked) + (at,)
 
 
-def low(sheet):
-    """No comparison constant of 2^31 or more, where plain mode is not the meaning."""
-    for r, _ in model.content(sheet)[0]:
-        kind, n, a = model.KINDS[r[0]], model.number(r[4:8]), model.number(r[8:12])
-        constant = {'host4': n, 'net': n & a, 'etherhost': a, 'mpls': n, 'ipbroadcast': 2 ** 32 - 1, 'ipmulticast': 2 ** 31}.get(kind, 0)
-        if kind in ('len', 'byteaccess') and model.COMPARISONS[r[2]] != 'bitand':
-            constant = n if kind == 'len' else a
-        if constant >= 2 ** 31:
-            return False
-    return True
-
-
 def P(file, sheet, want=None, mode=MENDED, at=0, most=0):
     """A case. Stated: want, the whole answer, or the refusal's number alone."""
     store(file, sheet, of_part(mode, sheet, file, at, most) if at else of_whole(mode, sheet, file), want, mode, at, most)
 
 
 def store(file, sheet, answer, want, mode, at, most):
-    assert answer[0] or mode == MENDED or low(sheet), ('plain mode would need its own meaning', sheet.hex())
+    assert answer[0] or mode == MENDED or filters.low(sheet), ('plain mode would need its own meaning', sheet.hex())
     if want is not None:
         assert answer == want or answer[0] == want, (mode, at, most, sheet.hex(), file[:200].hex(), 'meant', want, 'model', answer)
     data = (b'P' + bytes([mode]) + struct.pack('>QQI', at, most, len(sheet)) + sheet + struct.pack('>I', len(file)) + file)
@@ -401,7 +389,7 @@ def real_captures():
         cut = sum(len(frame) < original for _, frame, original in walked)
         want = (0, passed, len(walked) - passed - cut, cut, len(file))
         P(file, sheet, want)
-        if low(sheet) and len(file) < 1000:
+        if filters.low(sheet) and len(file) < 1000:
             P(file, sheet, want, PLAIN)
 
 

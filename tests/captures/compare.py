@@ -1,7 +1,7 @@
 """compare.py FOLDER COUNT-PROGRAM [--count N] [--filter OURS THEIRS]: our counts and tcpdump's over the captures in FOLDER.
 
-`run` calls it. --count N takes the first N captures only; --filter compares one more filter, given in both notations.
-Ends with 1 at the first kind of difference that no rule names.
+`run` calls it. --count N takes the first N captures only; --filter compares one filter, given in both notations, in place of the table.
+Ends with 1 at the first difference that no rule names.
 """
 import collections
 import os
@@ -18,7 +18,7 @@ import rules
 import savefile
 from savefile import model
 
-MENDED = '1'
+PLAIN, MENDED = '0', '1'
 FORMS = [(order, magic) for order in '<>' for magic in (savefile.MICRO, savefile.NANO)]
 EVERY = 262144                       # the snap length of copies: libpcap cuts frames at this length
 SMALL = 1000                         # captures up to this size are cut at every byte
@@ -40,11 +40,11 @@ def fail(text):
     sys.exit(1)
 
 
-def run_count(count, sheet_path, paths, each=False):
+def run_count(count, sheet_path, paths, each=False, mode=MENDED):
     """Ours, a tuple a file: status, answer, passed, dropped, cut, and with `each` the letters of the records."""
     out = []
     for i in range(0, len(paths), 500):
-        ran = subprocess.run([count] + ['--each'] * each + [sheet_path, MENDED] + paths[i:i + 500], stdout=subprocess.PIPE, text=True)
+        ran = subprocess.run([count] + ['--each'] * each + [sheet_path, mode] + paths[i:i + 500], stdout=subprocess.PIPE, text=True)
         if ran.returncode:
             fail('count ended with %d' % ran.returncode)
         for line in ran.stdout.splitlines():
@@ -58,6 +58,10 @@ def tcpdump(path, expression, *more):
     if ran.returncode:
         fail('tcpdump ends with %d on %s: %s' % (ran.returncode, path, ran.stderr.decode().strip()))
     return ran.stdout
+
+
+def tcpdump_reads(path):
+    return subprocess.run(['tcpdump', '-Z', 'root', '-n', '-r', path, '--count'], stdout=subprocess.DEVNULL, stderr=subprocess.DEVNULL).returncode == 0
 
 
 def tcpdump_count(path, expression):
@@ -197,8 +201,8 @@ def compare_cuts(capture, count, f, sheet_path, folder):
         opened = savefile.opened(piece)
         answers.append(opened + (0, 0, 0) if opened[0] else (0, n) + savefile.counts(opened[1], f.sheet, savefile.records(piece)[0]))
     for path, told, answer in zip(paths, run_count(count, sheet_path, paths), answers):
-        if told != answer:
-            fail('%s of %s: ours %s, the walk in Python %s' % (path, capture.name, told, answer))
+        if told != answer or (told[0] == 0) != tcpdump_reads(path):
+            fail('%s of %s: ours %s, the walk in Python %s; tcpdump reads it: %s' % (path, capture.name, told, answer, tcpdump_reads(path)))
     return collections.Counter(a[0] for a in answers)
 
 
@@ -237,7 +241,7 @@ def compare_link(link, captures, more, count, sheets, folder, found):
     chosen, records, first = by_link(captures, link)
     every = records + more
     path = written(os.path.join(folder, 'all%d' % link), numbered(every, 101 if link else 1))
-    verdicts = counts = filters_said = passed = 0
+    verdicts = counts = said = plain = passed = 0
     for f, sheet_path in sheets:
         if not sayable(f, link):
             refused_there(count, f, sheet_path, path, link)
@@ -245,13 +249,27 @@ def compare_link(link, captures, more, count, sheets, folder, found):
         answer = run_count(count, sheet_path, [path], True)[0]
         if answer[0]:
             fail('%s: ours %s' % (f.ours, answer))
+        if filters.low(f.sheet) and run_count(count, sheet_path, [path], True, PLAIN)[0] != answer:
+            fail('%s: plain mode differs from mended mode' % f.ours)
+        plain += filters.low(f.sheet)
         differing, theirs = compare_frames(link, every, path, f, answer[5], found)
         counts += compare_counts(chosen, first, f, run_count(count, sheet_path, [c.copy for c in chosen]), differing)
         verdicts += len(every)
-        filters_said += 1
+        said += 1
         passed += theirs
-    print('link %d: %d files, %d frames%s, %d filters: %d verdicts beside tcpdump\'s and the model\'s (%d pass), %d counts beside --count' % (
-        link, len(chosen), len(records), ' and %d made raw' % len(more) if more else '', filters_said, verdicts, passed, counts))
+    print('link %d: %d files, %d frames and %d made, %d filters: %d verdicts beside tcpdump\'s and the model\'s (%d pass), %d counts beside '
+          '--count; %d filters in plain mode too' % (link, len(chosen), len(records), len(more), said, verdicts, passed, counts, plain))
+
+
+def small_ones(captures):
+    """A small capture of each link and byte order, and one with cut records."""
+    chosen = {}
+    for c in captures:
+        if c.opened[0] == 0 and len(c.file) <= SMALL and len(c.records) > 2:
+            chosen.setdefault((c.link, savefile.order_of(c.file)), c)
+            if c.left_out['cut']:
+                chosen.setdefault('cut', c)
+    return list(dict.fromkeys(chosen.values()))
 
 
 def arguments(words):
@@ -283,7 +301,7 @@ def main(words):
     captures = [Capture(os.path.join(source, n)) for n in names]
     folder = tempfile.mkdtemp()
     try:
-        compare(captures, count, filters.PAIRS + [options['--filter']] * bool(options['--filter']), folder)
+        compare(captures, count, [filters.PAIRS[0], options['--filter']] if options['--filter'] else filters.PAIRS, folder)
     finally:
         shutil.rmtree(folder)
 
@@ -299,12 +317,13 @@ def compare(captures, count, pairs, folder):
     compare_opening(captures, count, sheets[0][1])
     tell_left_out(captures)
     ethernet = by_link(captures, model.ETHERNET)[1]
-    compare_link(model.ETHERNET, captures, [], count, sheets, folder, found)
+    compare_link(model.ETHERNET, captures, rules.MADE, count, sheets, folder, found)
     compare_link(model.RAWIP, captures, stripped(ethernet), count, sheets, folder, found)
     compare_forms([c for c in captures if c.copy], count, sheets, folder)
-    for c in [c for c in captures if c.opened[0] == 0 and len(c.file) <= SMALL and len(c.records) > 2][:4]:
-        by = compare_cuts(c, count, sheets[0][0], sheets[0][1], folder)
-        print('%s (link %d, %d bytes) cut at every byte: %s' % (c.name, c.link, len(c.file), ', '.join('%d times %d' % (n, k) for k, n in sorted(by.items()))))
+    for c in small_ones(captures):
+        by = compare_cuts(c, count, *sheets[0], folder)
+        print('%s (link %d, %d bytes) cut at every byte: %s, where tcpdump reports an error, too' % (
+            c.name, c.link, len(c.file), ', '.join('%d times %d' % (n, k) for k, n in sorted(by.items()))))
     for name, sentence, _, _ in rules.RULES:
         print('%6d verdicts differ by the rule "%s": %s' % (found[name], name, sentence))
     print('0 differences that no rule names')

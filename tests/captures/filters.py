@@ -11,6 +11,8 @@ import sys
 from importlib.machinery import SourceFileLoader
 from importlib.util import module_from_spec, spec_from_loader
 
+from savefile import model
+
 TABLE = """
 ip                                                  | ip
 ip6                                                 | ip6
@@ -101,3 +103,15 @@ def notation():
 def sheet_of(text):
     """The sheet of a filter in our notation."""
     return notation().main(text)
+
+
+def low(sheet):
+    """No comparison constant of 2^31 or more, where plain mode is not the meaning."""
+    for r, _ in model.content(sheet)[0]:
+        kind, n, a = model.KINDS[r[0]], model.number(r[4:8]), model.number(r[8:12])
+        constant = {'host4': n, 'net': n & a, 'etherhost': a, 'mpls': n, 'ipbroadcast': 2 ** 32 - 1, 'ipmulticast': 2 ** 31}.get(kind, 0)
+        if kind in ('len', 'byteaccess') and model.COMPARISONS[r[2]] != 'bitand':
+            constant = n if kind == 'len' else a
+        if constant >= 2 ** 31:
+            return False
+    return True

@@ -1,8 +1,10 @@
 """Where ours and tcpdump honestly differ on a frame, each with its reason.
 
-A rule takes (link, filter, frame, original length) and tells whether the frame is one on which the two may differ; `ours`
-is the verdict that ours may then have alone, or None for either. README.md has the same list in words.
+A rule takes (link, filter, frame, original length) and tells whether the frame is one on which the two may differ. README.md has the
+same list in words. Each rule names a verdict of the run: where no captured frame shows the difference, one of MADE does.
 """
+import struct
+
 from savefile import model
 
 
@@ -45,7 +47,13 @@ def is_ip(link, frame):
 
 
 def short_frame(link, f, frame, original):
-    return lacks(link, f, frame)
+    return lacks(link, f, frame) or ('net6' in f.kinds and len(frame) < model.NET[link] + 40)
+
+
+def half_of_the_ports(link, f, frame, original):
+    """The source port is there, the destination port is not."""
+    start = model.ipv4_transport(link, frame) if is_ip(link, frame) else model.NET[link] + 40
+    return f.transport and start is not None and start + 2 <= len(frame) < start + 4
 
 
 def later_fragment(link, f, frame, original):
@@ -80,7 +88,9 @@ def not_version_4(link, f, frame, original):
 
 # name, sentence, rule, the verdict that ours may have alone (None: either)
 RULES = [
-    ('short', 'a test asks for a byte past the end: libpcap drops the frame there, ours makes that test false', short_frame, True),
+    ('short', 'a test reads past the end (libpcap reads words where ours reads halves): libpcap drops the frame, ours makes the test false',
+     short_frame, True),
+    ('half of the ports', 'libpcap reads one port, ours asks for all four port bytes', half_of_the_ports, False),
     ('fragment', 'later IPv4 fragment: libpcap finds no ports or transport bytes in it, ours does until A5', later_fragment, None),
     ('fragment6', 'IPv6 fragment header: libpcap also looks at the protocol behind it', fragment_header, False),
     ('class E', '`ip multicast` of libpcap is a destination from 224.0.0.0 to the top, ours to 239.255.255.255', class_e, False),
@@ -88,6 +98,23 @@ RULES = [
     ('vlan', '`vlan` of libpcap means 0x88a8 and 0x9100 too', other_vlan_tags, False),
     ('mpls', '`mpls` of ours means 0x8848 too', mpls_multicast, True),
     ('version', 'RawIp of ours is IPv4 always, libpcap looks at the version', not_version_4, None),
+]
+
+
+def ethernet(ethertype, rest):
+    return b'\2' * 12 + struct.pack('>H', ethertype) + rest
+
+
+SIX = b'\x60\0\0\0\0\x20%c\x40\xfe\x80' + bytes(13) + b'\1\xfe\x80' + bytes(13) + b'\2'
+FOUR = struct.pack('>BBHHHBBHII', 0x45, 0, 40, 0, 0, 64, 6, 0, 0x0a000001, 0x0a000002)
+
+# Frames that nobody captured, with their original lengths.
+MADE = [
+    (ethernet(0x86dd, SIX % 44 + b'\6' + bytes(27)), 82),              # a fragment header, tcp behind it
+    (ethernet(0x8848, bytes(50)), 64),                                  # mpls multicast
+    (ethernet(0x0800, FOUR + bytes(30)), 60),                           # 64 bytes captured of 60
+    (ethernet(0x0800, FOUR + struct.pack('>H', 6633)), 36),             # half of the ports
+    (ethernet(0x86dd, SIX % 6)[:24], 24),                               # half a word of an address
 ]
 
 

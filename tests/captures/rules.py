@@ -13,6 +13,7 @@ class Filter:
     def __init__(self, ours, theirs, sheet):
         self.ours, self.theirs, self.sheet = ours, theirs, sheet
         self.tests = model.content(sheet)[0]
+        self.turned = model.NOT in model.content(sheet)[1]
         self.kinds = {model.KINDS[r[0]] for r, _ in self.tests}
         self.transport = bool(self.kinds & {'port', 'portrange'}) or any(
             model.KINDS[r[0]] == 'byteaccess' and model.LAYERS[r[1]] == 'trans' for r, _ in self.tests)
@@ -119,8 +120,9 @@ MADE = [
 
 
 def rule_for(link, f, frame, original, ours):
-    """The first rule that names a difference, where ours says `ours` and tcpdump the opposite; or None."""
+    """The first rule that names a difference, where ours says `ours` and tcpdump the opposite; or None. A Not turns the verdict that
+    ours may have alone, but for a frame that libpcap drops at once."""
     for name, _, applies, alone in RULES:
-        if alone in (None, ours) and applies(link, f, frame, original):
+        if (alone in (None, ours) or f.turned and applies is not short_frame) and applies(link, f, frame, original):
             return name
     return None

@@ -325,6 +325,8 @@ def parts():
             for most in (0, 1, 2, 7, 9, ALL):
                 P(file, IP, 0, (at + most) % 2, at, most)
         assert cases[-1][1] == (0, 0, 0, 0, len(file))
+        for most in (2 ** 8, 2 ** 16, 2 ** 32, 2 ** 32 + 1, 2 ** 63):
+            P(file, IP, of_whole(MENDED, IP, file), MENDED, 24, most)
         for at in range(1, places[2] + 1):              # inside a header, a body, before the first record
             P(file, IP, None, at % 2, at, 1)
             P(file, IP, None, at % 2, at, ALL)

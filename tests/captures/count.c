@@ -34,7 +34,7 @@ static struct bytes whole_file(const char *path)
     }
     b.n = (size_t)ftell(f);
     rewind(f);
-    b.at = malloc(b.n + 1);
+    b.at = malloc(b.n ? b.n : 1);
     if (!b.at || fread(b.at, 1, b.n, f) != b.n) {
         perror(path);
         exit(2);

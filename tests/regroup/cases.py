@@ -5,6 +5,7 @@ cases.py check DIR: the answers in DIR/stdout are what document 02's A7 says of 
 import os
 import sys
 
+sys.dont_write_bytecode = True
 from pairs import *
 import compare
 

@@ -1,6 +1,6 @@
 #!/bin/sh
 # make.sh [FOLDER]: writes the sheet of each notation here and has the oracle list it; FOLDER holds pktbaffle/src, as for
-# tools/differential. Ethernet and mended mode, unless the name says rawip or plain.
+# tools/differential. Ethernet and mended mode, unless the name says rawip or plain. Ends with 1 if brackets change a listing.
 set -eu
 cd "$(dirname "$0")"
 oracle=$(../tools/differential/build "$@")
@@ -11,3 +11,4 @@ for notation in *.txt; do
     case $name in *plain*) mode='\000' ;; *) mode='\001' ;; esac
     { printf "$link$mode"; cat "$name.sheet"; } | "$oracle" listing >"$name.listing"
 done
+cmp brackets-left.listing brackets-right.listing

@@ -1,4 +1,5 @@
 pub mod Bounds
+pub mod Regroup
 pub mod Checks
 pub mod Examples
 pub mod Lengths

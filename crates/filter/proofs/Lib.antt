@@ -1,4 +1,5 @@
 pub mod Firsts
 pub mod Wrongs
 pub mod Sheets
+pub mod Written
 pub mod Unique

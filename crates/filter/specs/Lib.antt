@@ -4,3 +4,4 @@ pub mod First
 pub mod Record
 pub mod Sheet
 pub mod Wrong
+pub mod Written

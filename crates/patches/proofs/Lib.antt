@@ -13,5 +13,7 @@ pub mod Bytes
 pub mod Program
 pub mod Exact
 pub mod WholeTrees
+pub mod Associative
+pub mod Regroup
 pub mod Examples
 pub mod Unique

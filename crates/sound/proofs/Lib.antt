@@ -26,3 +26,5 @@ pub mod Checked
 pub mod Sheets
 pub mod Accepted
 pub mod Demand3
+pub mod Regrouped
+pub mod DoubleNot

@@ -39,6 +39,11 @@ module _ {frame : List ℕ} {start : ℕ} (w : Frame frame start) (mode : ℕ) {
       primitive-means w mode link steps (stepsBefore prims i) (decodeAt prims (24 * i))
       (fine i i-in) (s .not-refused i i-in) (small i i-in))
 
+  -- Each primitive of the sheet decides something.
+  pub primitives-decide : (i : ℕ) → i < b → (q : Bool) × Means frame start (primitiveCode mode link steps prims i) q
+  unfolding primitiveCode refusalAt
+  primitives-decide i i-in = primitive-decides w mode link steps (stepsBefore prims i) (decodeAt prims (24 * i)) (fine i i-in) (s .not-refused i i-in)
+
   -- THEOREM: whatever its constants, it decides something.
   pub sheet-decides : (q : Bool) × Means frame start (sheetCode mode link steps prims tokens) q
   unfolding sheetCode primitiveCode refusalAt
@@ -61,6 +66,11 @@ module _ {frame : List ℕ} {start : ℕ} (w : Frame frame start) (mode : ℕ) {
         → Exits (cond (expressionHolds link steps prims tokens frame) 2 1) (length (program (sheetCode mode link steps prims tokens)))
         (runOf (codeOf (program (sheetCode mode link steps prims tokens))) frame start (length (program (sheetCode mode link steps prims tokens))))
     sheet-runs small = run-ends w (sheet-fits n) short (program-ends w (sheet-means small))
+
+    -- With what the code decides.
+    pub sheet-exits-as : {q : Bool} → Means frame start (sheetCode mode link steps prims tokens) q → Exits (cond q 2 1) (length (program (sheetCode mode link steps prims tokens)))
+        (runOf (codeOf (program (sheetCode mode link steps prims tokens))) frame start (length (program (sheetCode mode link steps prims tokens))))
+    sheet-exits-as m = run-ends w (sheet-fits n) short (program-ends w m)
 
     -- In either mode and with any constants it exits, and with 1 or 2.
     pub sheet-exits : (q : Bool) × Exits (cond q 2 1) (length (program (sheetCode mode link steps prims tokens)))

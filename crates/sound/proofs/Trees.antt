@@ -50,7 +50,7 @@ filled-swapped a b k (success i ∷ xs) = rw (filled-swapped a b k xs, past-swap
 filled-swapped a b k (failure i ∷ xs) = rw (filled-swapped a b k xs)
 
 module _ {frame : List ℕ} {start : ℕ} where
-  and-means : {xs ys : List Slot} {p q : Bool} → Means frame start xs p → Means frame start ys q → Means frame start (both-of xs ys) (p && q)
+  pub and-means : {xs ys : List Slot} {p q : Bool} → Means frame start xs p → Means frame start ys q → Means frame start (both-of xs ys) (p && q)
   unfolding both-of
   and-means {xs} {ys} {p} {q} m n =
       record {
@@ -60,7 +60,7 @@ module _ {frame : List ℕ} {start : ℕ} where
             (λ t c0 c4 c5 c6 k. on-past a b ys (h′ (rw t) c0 c4 c5 c6 k)));
       }
 
-  not-means : {xs : List Slot} {p : Bool} → Means frame start xs p → Means frame start (none-of xs) (not p)
+  pub not-means : {xs : List Slot} {p : Bool} → Means frame start xs p → Means frame start (none-of xs) (not p)
   unfolding none-of filled past
   not-means {xs} {p} m =
       record {

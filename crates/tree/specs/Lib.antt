@@ -1,3 +1,4 @@
 pub mod Tree
 pub mod Tokens
 pub mod Shape
+pub mod Regroup

@@ -1,6 +1,6 @@
 #!/bin/sh
-# replay.sh: makes the cases of the program replay and their answers: the machine's, the sheet's, the evaluator's and the listing's,
-# then the compiler's, which are stored in compile/ and, in pairs, in regroup/.
+# replay.sh: makes the cases of the program replay and their answers: the machine's, the sheet's, the evaluator's, the listing's and the
+# captures', then the compiler's, which are stored in compile/ and, in pairs, in regroup/.
 set -eu
 cd "$(dirname "$0")"
 work=$(mktemp -d)
@@ -9,5 +9,6 @@ python3 machine/cases.py "$work/machine"
 python3 sheet/cases.py "$work/sheet"
 mkdir "$work/listing"
 python3 listing/cases.py "$work/listing"
-cat "$work/machine/stdin" "$work/sheet/stdin" "$work/listing/stdin" compile/stdin compile/limits.stdin regroup/stdin >../crates/replay/stdin
-cat "$work/machine/stdout" "$work/sheet/stdout" "$work/listing/stdout" compile/stdout compile/limits.stdout regroup/stdout >../crates/replay/stdout
+python3 captures/cases.py "$work/captures"
+cat "$work/machine/stdin" "$work/sheet/stdin" "$work/listing/stdin" "$work/captures/stdin" compile/stdin compile/limits.stdin regroup/stdin >../crates/replay/stdin
+cat "$work/machine/stdout" "$work/sheet/stdout" "$work/listing/stdout" "$work/captures/stdout" compile/stdout compile/limits.stdout regroup/stdout >../crates/replay/stdout

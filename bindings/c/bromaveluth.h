@@ -1,11 +1,13 @@
-/* libbromaveluth.a: a packet-filter generator, an evaluator and an eBPF step machine, for x86-64 Linux.
+/* libbromaveluth.a: a packet-filter generator, an evaluator, an eBPF step machine and a reader of captures, for x86-64 Linux.
  *
  * `rt staticlib bromaveluth` proves the functions below against their contracts (crates/bromaveluth/src/lib.rt) and writes the archive.
- * A comment here says in words what a contract says in definitions; "document 01" is the paper of rules that they follow.
+ * A comment here says in words what a contract says in definitions; "document 01" is the paper of rules that they follow,
+ * "document 02" the paper of requests that added to it.
  *
  * What a caller owes, since C cannot be asked to prove it:
  * - a pointer and the count behind it name memory of so many elements, aligned for its type; where the count is 0, nothing is read or
- *   written through the pointer, and it may be NULL. The pointers without a count (answer, r0, steps) point to one number each.
+ *   written through the pointer, and it may be NULL. The pointers without a count (answer, r0, steps, passed, dropped, cut) point to one
+ *   number each.
  * - what a function writes overlaps nothing else that the call is lent; until it returns, no other thread writes what is lent or reads
  *   what the function writes.
  * Beyond that any bytes, numbers and counts may be passed. No function keeps a pointer, allocates, or calls anything of the C library
@@ -48,7 +50,12 @@ enum {
     BROMAVELUTH_DIRECTION = 16,      /* Inbound, Outbound */
     BROMAVELUTH_LOAD = 17,           /* comparison with a load */
     BROMAVELUTH_DIVISION = 18,       /* first bad step: division by 0 */
-    BROMAVELUTH_MODULO = 19          /* first bad step: Mod */
+    BROMAVELUTH_MODULO = 19,         /* first bad step: Mod */
+    /* Of a capture, looked for in file order through the whole file, before all others; place: a byte of the file. */
+    BROMAVELUTH_MAGIC = 40,          /* unknown magic; place: 0 */
+    BROMAVELUTH_LINK_TYPE = 41,      /* other link type than 1 (Ethernet) and 101 (raw IP), one 32-bit number; place: 20, its first byte */
+    BROMAVELUTH_FILE_ENDS = 42,      /* file ends inside a header or record, a file below four bytes too; place: where that begins */
+    BROMAVELUTH_CAPTURED_LENGTH = 43 /* captured length above 16,384, before the record's body; place: where the record begins */
 };
 
 /* Stops of the machine. */
@@ -79,6 +86,35 @@ uint8_t bromaveluth_evaluate(const uint8_t *sheet, size_t sheet_bytes, uint8_t l
  * any other, *steps the number of steps carried out, an exit counted. Nothing else is written. */
 uint8_t bromaveluth_run(const uint8_t *program, size_t program_bytes, const uint8_t *frame, size_t frame_bytes, uint64_t start,
                         uint64_t budget, uint64_t *r0, uint64_t *steps);
+
+/* A capture below is a whole libpcap savefile in memory: a header of 24 bytes (magic a1b2c3d4, or a1b23c4d for nanoseconds, in either byte
+ * order; the link type in its last four), then records, each a header of 16 bytes and the captured bytes. A record is cut when its
+ * captured length is below its original one; a cut record is not judged. */
+
+/* Looks through a whole capture. Returns 0 and in *answer the link that it picks; or 40 to 43 and in *answer the byte of the file where
+ * what is refused begins: 0 for the magic and for a file that ends inside its header, 20 for the link type, the first byte of its header
+ * for a record. Nothing else is written. */
+uint8_t bromaveluth_capture_open(const uint8_t *file, size_t file_bytes, uint64_t *answer);
+
+/* Compiles a sheet for the link that a capture picks and runs the program on every record that is not cut. Returns 0, how many frames
+ * passed, were dropped and were cut, which add up to the records of the file, and in *answer file_bytes. Else a refusal, its place in
+ * *answer and three zeros: 40 to 43 first, through the whole file, which leave output and work as they were; then 1 to 8 and 10 to 19, as
+ * bromaveluth_compile gives them. Except after 40 to 43 output and work are as bromaveluth_compile leaves them. A frame passes exactly when
+ * the sheet's expression holds on it; in plain mode for sheets whose comparison constants are all below 2^31. Nothing else is written. */
+uint8_t bromaveluth_capture(const uint8_t *file, size_t file_bytes, const uint8_t *sheet, size_t sheet_bytes, uint8_t mode,
+                            uint8_t *output, size_t output_bytes, uint32_t *work, size_t work_numbers, uint64_t *passed,
+                            uint64_t *dropped, uint64_t *cut, uint64_t *answer);
+
+/* A part of the same: after the file's header (40, 42, 41) the sheet is compiled (1 to 8, 10 to 19), then at most `most` records from the
+ * byte `at` on are judged; 24 is where the first one begins. Returns 0, the counts of these records and in *answer the byte where to go on,
+ * which is file_bytes when the file is through. Else a refusal, its place in *answer and three zeros; 42 and 43 are given when such a
+ * record is met. Except after a refusal of the header, which leaves them as they were, output and work are as bromaveluth_compile leaves
+ * them. Parts that begin at 24 and go on where the last one ended add up to what bromaveluth_capture answers; from another byte on, what
+ * stands there is taken for a record, and at or past the end there is none and *answer is at. A part can refuse the sheet before a
+ * fault of a later record is met: a caller who gets a refusal below 40 asks bromaveluth_capture_open, whose refusal comes first. */
+uint8_t bromaveluth_capture_part(const uint8_t *file, size_t file_bytes, const uint8_t *sheet, size_t sheet_bytes, uint8_t mode,
+                                 uint8_t *output, size_t output_bytes, uint32_t *work, size_t work_numbers, uint64_t at,
+                                 uint64_t most, uint64_t *passed, uint64_t *dropped, uint64_t *cut, uint64_t *answer);
 
 #ifdef __cplusplus
 }

@@ -1,47 +1,44 @@
 /* Calls each function of libbromaveluth.a on good, bad and empty input and compares every number and byte with what document 01 says. */
-#include "bromaveluth.h"
+#include "checks.h"
 
 #include <stdio.h>
 #include <string.h>
 
 static int checks, wrong;
+const char *source = "calls.c";
 
-static void same(int line, const char *what, uint64_t got, uint64_t expected)
+void same(int line, const char *what, uint64_t got, uint64_t expected)
 {
     checks++;
     if (got == expected) return;
     wrong++;
-    fprintf(stderr, "line %d: %s is %llu, not %llu\n", line, what, (unsigned long long)got, (unsigned long long)expected);
+    fprintf(stderr, "%s:%d: %s is %llu, not %llu\n", source, line, what, (unsigned long long)got, (unsigned long long)expected);
 }
 
-#define SAME(got, expected) same(__LINE__, #got, (got), (expected))
-
-enum { ROOM = 256, FILL = 0xaa };
-#define FILL_WORD 0xaaaaaaaau
-#define JUNK 0x1122334455667788u
-
-static uint8_t output[ROOM];
-static uint32_t work[ROOM];
+uint8_t output[ROOM];
+uint32_t work[ROOM];
 static uint64_t answer, r0, steps;
 
-/* The sheet `ip`: no steps, one primitive (kind 7, p 1), one token. */
-static const uint8_t ip[31] = {0, 0, 0, 1, 7, 0, 1, [28] = 0, 1, 0};
+const uint8_t ip[IP_SHEET] = {0, 0, 0, 1, 7, 0, 1, [28] = 0, 1, 0};
 
-/* Its program on Ethernet in plain mode: document 01, K2. */
-static const uint8_t listing[96] = {
+const uint8_t listing[LISTING] = {
     0x61, 0x12, 0, 0, 0, 0, 0, 0,    0x61, 0x13, 4, 0, 0, 0, 0, 0,    0xbf, 0x25, 0, 0, 0, 0, 0, 0,    0x07, 0x05, 0, 0, 14, 0, 0, 0,
     0x2d, 0x35, 5, 0, 0, 0, 0, 0,    0x69, 0x24, 12, 0, 0, 0, 0, 0,   0xdc, 0x04, 0, 0, 16, 0, 0, 0,   0x55, 0x04, 2, 0, 0, 8, 0, 0,
     0xb7, 0, 0, 0, 2, 0, 0, 0,       0x95, 0, 0, 0, 0, 0, 0, 0,       0xb7, 0, 0, 0, 1, 0, 0, 0,       0x95, 0, 0, 0, 0, 0, 0, 0,
 };
 
-/* An Ethernet frame of IPv4, and one of ARP. */
-static const uint8_t ip_frame[60] = {[12] = 8, [13] = 0};
-static const uint8_t arp_frame[60] = {[12] = 8, [13] = 6};
+const uint8_t ip_frame[60] = {[12] = 8, [13] = 0};
+const uint8_t arp_frame[60] = {[12] = 8, [13] = 6};
 
-static void fresh(void)
+void lend(void)
 {
     memset(output, FILL, sizeof output);
     memset(work, FILL, sizeof work);
+}
+
+static void fresh(void)
+{
+    lend();
     answer = r0 = steps = JUNK;
 }
 
@@ -51,14 +48,13 @@ static uint8_t compile(const uint8_t *sheet, size_t n, uint8_t link, uint8_t mod
     return bromaveluth_compile(sheet, n, link, mode, output, out, work, numbers, &answer);
 }
 
-/* From here on output and work are as they were lent. */
-static void untouched(int line, size_t bytes, size_t numbers)
+void untouched(int line, size_t bytes, size_t numbers)
 {
     for (size_t i = bytes; i < ROOM; i++) same(line, "a byte of output", output[i], FILL);
     for (size_t i = numbers; i < ROOM; i++) same(line, "a number of work", work[i], FILL_WORD);
 }
 
-static void zeroed_work(int line, size_t numbers)
+void zeroed_work(int line, size_t numbers)
 {
     for (size_t i = 0; i < numbers; i++) same(line, "a cleared number of work", work[i], 0);
 }
@@ -215,6 +211,7 @@ int main(void)
     compiles_nothing();
     evaluates();
     runs();
+    captures();
     printf("C: %d checks, %d wrong\n", checks, wrong);
     return wrong != 0;
 }

@@ -1,8 +1,9 @@
-//! Safe functions over `libbromaveluth.a`: [`compile`] a filter's sheet, [`evaluate`] it on a frame, [`run`] its program.
+//! Safe functions over `libbromaveluth.a`: [`compile`] a filter's sheet, [`evaluate`] it on a frame, [`run`] its program, count what it
+//! passes of a [`mod@capture`].
 //!
 //! `rt staticlib bromaveluth` proves the archive's functions against their contracts and writes it; it links into x86-64 Linux programs.
 //! The functions take any bytes and any lengths; they panic only at an answer that the archive's contracts rule out, as of another
-//! archive. "Document 01" is the paper of rules that they follow.
+//! archive. "Document 01" is the paper of rules that they follow, "document 02" the paper of requests that added captures.
 //!
 //! ```no_run
 //! use bromaveluth::{program, run, Link, Mode};
@@ -14,6 +15,7 @@
 //! ```
 #![deny(unsafe_op_in_unsafe_fn, missing_docs)]
 
+pub mod capture;
 mod refusal;
 mod stop;
 
@@ -102,18 +104,33 @@ pub fn compile(sheet: &[u8], link: Link, mode: Mode, output: &mut [u8], work: &m
 
 /// The program of a sheet, in buffers of its own: as [`compile`], but never refused 7 or 8.
 pub fn program(sheet: &[u8], link: Link, mode: Mode) -> Result<Vec<u8>, Refused> {
-    let mut room = 1024;
-    loop {
-        let mut output = vec![0; 8 * room];
-        let mut work = vec![0; 8 * room];
-        match compile(sheet, link, mode, &mut output, &mut work) {
-            Ok(length) => {
-                output.truncate(8 * length);
-                return Ok(output);
+    let mut room = Room::new();
+    let length = room.until_enough(|output, work| compile(sheet, link, mode, output, work))?;
+    room.output.truncate(8 * length);
+    Ok(room.output)
+}
+
+/// Output and work of our own, for callers who lend none.
+struct Room {
+    output: Vec<u8>,
+    work: Vec<u32>,
+}
+
+impl Room {
+    fn new() -> Room {
+        Room { output: vec![0; 8 << 10], work: vec![0; 8 << 10] }
+    }
+
+    /// What a call answers once the room is enough for it. L and the tokens of a sheet are bounded by its 16-bit counts, so this ends.
+    fn until_enough<T>(&mut self, mut call: impl FnMut(&mut [u8], &mut [u32]) -> Result<T, Refused>) -> Result<T, Refused> {
+        loop {
+            match call(&mut self.output, &mut self.work) {
+                Err(Refused { refusal: Refusal::Output | Refusal::Work, .. }) => {
+                    self.output = vec![0; 4 * self.output.len()];
+                    self.work = vec![0; 4 * self.work.len()];
+                }
+                answer => return answer,
             }
-            // L and the tokens of a sheet are bounded by its 16-bit counts, so this ends.
-            Err(Refused { refusal: Refusal::Output | Refusal::Work, .. }) => room *= 4,
-            Err(refused) => return Err(refused),
         }
     }
 }

@@ -1,8 +1,8 @@
-//! Document 01's refusals.
+//! The refusals of documents 01 and 02.
 
 use std::fmt;
 
-/// Why a sheet was refused, in the order in which refusals are looked for.
+/// Why a sheet or a capture was refused: a sheet's in the order in which they are looked for; a capture's, 40 to 43, come before them.
 #[derive(Clone, Copy, Debug, PartialEq, Eq, Hash)]
 #[repr(u8)]
 pub enum Refusal {
@@ -45,10 +45,19 @@ pub enum Refusal {
     Division = 18,
     /// 19: first bad step: Mod.
     Modulo = 19,
+    /// 40: unknown magic. The place, here and below, is the byte of the file where what is refused begins: 0.
+    Magic = 40,
+    /// 41: other link type than 1 (Ethernet) and 101 (raw IP). The place is 20.
+    LinkType = 41,
+    /// 42: file ends inside a header or record, a file below four bytes too. The place is 0 for the file's header, else the record's
+    /// first byte.
+    FileEnds = 42,
+    /// 43: captured length above 16,384, before the record's body. The place is the record's first byte.
+    CapturedLength = 43,
 }
 
-/// Every refusal with document 01's words for it; number n stands at n - 1.
-const TEXTS: [(Refusal, &str); 19] = [
+/// Every refusal with the words of documents 01 and 02 for it.
+const TEXTS: [(Refusal, &str); 23] = [
     (Refusal::LinkOrMode, "link or mode above 1"),
     (Refusal::Length, "sheet length differs from what its counts ask, or a count is cut"),
     (Refusal::WrongByte, "a code or unused byte is wrong"),
@@ -68,23 +77,31 @@ const TEXTS: [(Refusal, &str); 19] = [
     (Refusal::Load, "comparison with a load"),
     (Refusal::Division, "first bad step: division by 0"),
     (Refusal::Modulo, "first bad step: Mod"),
+    (Refusal::Magic, "unknown magic"),
+    (Refusal::LinkType, "other link type"),
+    (Refusal::FileEnds, "file ends inside a header or record"),
+    (Refusal::CapturedLength, "captured length above 16,384"),
 ];
 
 impl Refusal {
-    /// Document 01's number, 1 to 19.
+    /// The papers' number, 1 to 19 or 40 to 43.
     pub fn number(self) -> u8 {
         self as u8
     }
 
-    /// The refusal with this number; none for 0 and for numbers above 19, which no function answers.
+    /// The refusal with this number; none for numbers that no function answers.
     pub fn from_number(number: u8) -> Option<Refusal> {
-        let at = usize::from(number).checked_sub(1)?;
-        TEXTS.get(at).map(|&(refusal, _)| refusal)
+        TEXTS.iter().map(|&(refusal, _)| refusal).find(|refusal| refusal.number() == number)
     }
 
-    /// Document 01's words.
+    /// The papers' words.
     pub fn text(self) -> &'static str {
-        TEXTS[self as usize - 1].1
+        TEXTS.iter().find(|&&(refusal, _)| refusal == self).map_or("", |&(_, text)| text)
+    }
+
+    /// Whether the capture itself is refused (40 to 43), not the sheet.
+    pub fn is_of_file(self) -> bool {
+        self.number() >= 40
     }
 }
 
@@ -94,7 +111,7 @@ impl fmt::Display for Refusal {
     }
 }
 
-/// A refusal and its place: a byte of the sheet (3), a primitive counted from 0 (5, 6, 11 to 19), or 0.
+/// A refusal and its place: a byte of the sheet (3), a primitive counted from 0 (5, 6, 11 to 19), a byte of the file (40 to 43), or 0.
 #[derive(Clone, Copy, Debug, PartialEq, Eq, Hash)]
 pub struct Refused {
     /// Why.
@@ -108,7 +125,7 @@ impl Refused {
     pub(crate) fn told(number: u8, place: u64) -> Refused {
         match Refusal::from_number(number) {
             Some(refusal) => Refused { refusal, place: place as usize },
-            None => unreachable!("document 01 has no refusal {number}"),
+            None => unreachable!("documents 01 and 02 have no refusal {number}"),
         }
     }
 }
@@ -119,6 +136,7 @@ impl fmt::Display for Refused {
         match refusal.number() {
             3 => write!(f, "refusal 3: {refusal} (byte {place})"),
             n @ (5 | 6 | 11..=19) => write!(f, "refusal {n}: {refusal} (primitive {place})"),
+            n @ 40..=43 => write!(f, "refusal {n}: {refusal} (byte {place} of the file)"),
             n => write!(f, "refusal {n}: {refusal}"),
         }
     }

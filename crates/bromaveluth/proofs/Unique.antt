@@ -15,3 +15,16 @@ pub bromaveluth-run : Unique crate.bromaveluth_run.ended (λ M 𝓤. crate.broma
 bromaveluth-run =
     unique (beside _ (beside _ (plain _)))
     (λ κs a r r′ ws ws′ p q. (p .0 ∙ sym (q .0), λ i. (tt, (tt, (tt, (tt, ((p .1 .0 ∙ sym (q .1 .0)) i, ((p .1 .1 ∙ sym (q .1 .1)) i, tt))))))))
+
+pub bromaveluth-capture-open : Unique crate.bromaveluth_capture_open.ended (λ M 𝓤. crate.bromaveluth_capture_open.clauses 𝓤)
+bromaveluth-capture-open = unique (beside _ (plain _)) (λ κs a r r′ ws ws′ p q. (p .0 ∙ sym (q .0), λ i. (tt, ((p .1 ∙ sym (q .1)) i, tt))))
+
+pub bromaveluth-capture : Unique crate.bromaveluth_capture.ended (λ M 𝓤. crate.bromaveluth_capture.clauses 𝓤)
+bromaveluth-capture =
+    unique (beside _ (beside _ (beside _ (beside _ (beside _ (beside _ (plain _)))))))
+    (λ κs a r r′ ws ws′ p q. (p .0 ∙ sym (q .0), λ i. (tt, (tt, (tt, ((p .1 .1 .1 .1 .1 .0 ∙ sym (q .1 .1 .1 .1 .1 .0)) i, ((p .1 .1 .1 .1 .1 .1 ∙ sym (q .1 .1 .1 .1 .1 .1)) i, ((p .1 .0 ∙ sym (q .1 .0)) i, ((p .1 .1 .0 ∙ sym (q .1 .1 .0)) i, ((p .1 .1 .1 .0 ∙ sym (q .1 .1 .1 .0)) i, ((p .1 .1 .1 .1 .0 ∙ sym (q .1 .1 .1 .1 .0)) i, tt)))))))))))
+
+pub bromaveluth-capture-part : Unique crate.bromaveluth_capture_part.ended (λ M 𝓤. crate.bromaveluth_capture_part.clauses 𝓤)
+bromaveluth-capture-part =
+    unique (beside _ (beside _ (beside _ (beside _ (beside _ (beside _ (plain _)))))))
+    (λ κs a r r′ ws ws′ p q. (p .0 ∙ sym (q .0), λ i. (tt, (tt, (tt, ((p .1 .1 .1 .1 .1 .0 ∙ sym (q .1 .1 .1 .1 .1 .0)) i, ((p .1 .1 .1 .1 .1 .1 ∙ sym (q .1 .1 .1 .1 .1 .1)) i, (tt, (tt, ((p .1 .0 ∙ sym (q .1 .0)) i, ((p .1 .1 .0 ∙ sym (q .1 .1 .0)) i, ((p .1 .1 .1 .0 ∙ sym (q .1 .1 .1 .0)) i, ((p .1 .1 .1 .1 .0 ∙ sym (q .1 .1 .1 .1 .0)) i, tt)))))))))))))

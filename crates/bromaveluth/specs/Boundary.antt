@@ -3,8 +3,12 @@ use Prim.Native.Nat.{ℕ}
 use mathlib.Core.Bool.{cond}
 use Rattle.generator.specs.declared.Compiled.{Compiled}
 use Rattle.generator.specs.declared.Compiled.the-variants as compiled
+use Rattle.capture.specs.declared.Captured.{Captured}
+use Rattle.capture.specs.declared.Captured.the-variants as captured
 use Rattle.meaning.specs.declared.evaluate.Verdict.{Verdict}
 use Rattle.meaning.specs.declared.evaluate.Verdict.the-variants as verdict
+use Rattle.savefile.specs.declared.Opened.{Opened}
+use Rattle.savefile.specs.declared.Opened.the-variants as opened
 
 unfoldable pub compiledStatus : Compiled → ℕ
 compiledStatus (compiled.Refused number place) = number
@@ -23,3 +27,34 @@ verdictStatus (verdict.Judged holds) = 0
 unfoldable pub verdictNumber : Verdict → ℕ
 verdictNumber (verdict.Refused number place) = place
 verdictNumber (verdict.Judged holds) = cond holds 1 0
+
+unfoldable pub openedStatus : Opened → ℕ
+openedStatus (opened.Refused number place) = number
+openedStatus (opened.Capture big link) = 0
+
+-- The refusal's place in the file, or the link that the file picks.
+unfoldable pub openedNumber : Opened → ℕ
+openedNumber (opened.Refused number place) = place
+openedNumber (opened.Capture big link) = link
+
+unfoldable pub capturedStatus : Captured → ℕ
+capturedStatus (captured.Refused number place) = number
+capturedStatus (captured.Counted passed dropped cut next) = 0
+
+-- "counts then zero".
+unfoldable pub passedCount : Captured → ℕ
+passedCount (captured.Refused number place) = 0
+passedCount (captured.Counted passed dropped cut next) = passed
+
+unfoldable pub droppedCount : Captured → ℕ
+droppedCount (captured.Refused number place) = 0
+droppedCount (captured.Counted passed dropped cut next) = dropped
+
+unfoldable pub cutCount : Captured → ℕ
+cutCount (captured.Refused number place) = 0
+cutCount (captured.Counted passed dropped cut next) = cut
+
+-- The refusal's place, or where to go on.
+unfoldable pub capturedNumber : Captured → ℕ
+capturedNumber (captured.Refused number place) = place
+capturedNumber (captured.Counted passed dropped cut next) = next

@@ -1,16 +1,24 @@
-// The library that C and Rust programs link: compile, evaluate and run over slices and numbers. Each returns a plain status number and
+// The library that C and Rust programs link: compile, evaluate, run and count a capture over slices and numbers. Each returns a plain status number and
 // writes the numbers beside it through references; bindings/c/bromaveluth.h declares the same functions in C.
+use capture::Captured;
+use capture::capture;
+use capture::capture_part;
 use ebpf::run::run;
 use generator::Compiled;
 use generator::compile;
 use meaning::evaluate::Verdict;
 use meaning::evaluate::evaluate;
+use savefile::Opened;
+use savefile::open_file;
 ghost use mathlib.Core.Path.{_≡_};
 ghost use lib.ListN.{length};
 ghost use Rattle.ebpf.specs.Run.{runOf};
 ghost use Rattle.meaning.specs.Evaluate.{evaluateOf};
 ghost use Rattle.generator.specs.Compile.{outcomeOf, answerOf, outputAfter, workAfter};
-ghost use Rattle.bromaveluth.specs.Boundary.{compiledStatus, compiledNumber, verdictStatus, verdictNumber};
+ghost use Rattle.savefile.specs.Savefile.{headerOf, openedOf};
+ghost use Rattle.capture.specs.Capture.{partOf, capturedOf, outputIn, workIn};
+ghost use Rattle.bromaveluth.specs.Boundary.{compiledStatus, compiledNumber, verdictStatus, verdictNumber, openedStatus, openedNumber};
+ghost use Rattle.bromaveluth.specs.Boundary.{capturedStatus, passedCount, droppedCount, cutCount, capturedNumber};
 
 // 0 and the program's length L in `answer`, or the refusal and its place there.
 #[no_mangle]
@@ -75,4 +83,115 @@ pub extern "C" fn bromaveluth_run(
     *r0 = end.r0;
     *steps = end.steps;
     end.stop
+}
+
+// 0 and in `answer` the link that the savefile picks; or 40 to 43, and there the byte where what is refused begins.
+#[no_mangle]
+pub extern "C" fn bromaveluth_capture_open(file: &[u8], answer: &mut u64) -> u8
+    ensures { λ r. ⌜ r ≡ openedStatus (openedOf (now (file .entry))) ⌝ }
+    ensures { λ r. ⌜ now (answer .exit) ≡ openedNumber (openedOf (now (file .entry))) ⌝ }
+{
+    match open_file(file) {
+        Opened::Refused { number, place } => {
+            *answer = place as u64;
+            number
+        }
+        Opened::Capture { big: _, link } => {
+            *answer = link as u64;
+            0
+        }
+    }
+}
+
+// The counts, zero where refused, and beside them where to go on, or the refusal's place.
+fn tell(told: Captured, passed: &mut u64, dropped: &mut u64, cut: &mut u64, answer: &mut u64) -> u8
+    ensures { λ r. ⌜ r ≡ capturedStatus told ⌝ }
+    ensures { λ r. ⌜ now (passed .exit) ≡ passedCount told ⌝ }
+    ensures { λ r. ⌜ now (dropped .exit) ≡ droppedCount told ⌝ }
+    ensures { λ r. ⌜ now (cut .exit) ≡ cutCount told ⌝ }
+    ensures { λ r. ⌜ now (answer .exit) ≡ capturedNumber told ⌝ }
+{
+    match told {
+        Captured::Refused { number, place } => {
+            *passed = 0;
+            *dropped = 0;
+            *cut = 0;
+            *answer = place as u64;
+            number
+        }
+        Captured::Counted {
+            passed: p,
+            dropped: d,
+            cut: c,
+            next,
+        } => {
+            *passed = p;
+            *dropped = d;
+            *cut = c;
+            *answer = next as u64;
+            0
+        }
+    }
+}
+
+// 0, the three counts, and in `answer` the file's length; or the refusal, counts of zero, and its place there.
+#[no_mangle]
+pub extern "C" fn bromaveluth_capture(
+    file: &[u8],
+    sheet: &[u8],
+    mode: u8,
+    output: &mut [u8],
+    work: &mut [u32],
+    passed: &mut u64,
+    dropped: &mut u64,
+    cut: &mut u64,
+    answer: &mut u64,
+) -> u8
+    ensures { λ r. ⌜ r ≡ capturedStatus (capturedOf (now (file .entry)) (now (sheet .entry)) mode (length (now (output .entry))) (length (now (work .entry)))) ⌝ }
+    ensures { λ r. ⌜ now (passed .exit) ≡ passedCount (capturedOf (now (file .entry)) (now (sheet .entry)) mode (length (now (output .entry))) (length (now (work .entry)))) ⌝ }
+    ensures { λ r. ⌜ now (dropped .exit) ≡ droppedCount (capturedOf (now (file .entry)) (now (sheet .entry)) mode (length (now (output .entry))) (length (now (work .entry)))) ⌝ }
+    ensures { λ r. ⌜ now (cut .exit) ≡ cutCount (capturedOf (now (file .entry)) (now (sheet .entry)) mode (length (now (output .entry))) (length (now (work .entry)))) ⌝ }
+    ensures { λ r. ⌜ now (answer .exit) ≡ capturedNumber (capturedOf (now (file .entry)) (now (sheet .entry)) mode (length (now (output .entry))) (length (now (work .entry)))) ⌝ }
+    ensures { λ r. ⌜ now (output .exit) ≡ outputIn (openedOf (now (file .entry))) (now (sheet .entry)) mode (length (now (work .entry))) (now (output .entry)) ⌝ }
+    ensures { λ r. ⌜ now (work .exit) ≡ workIn (openedOf (now (file .entry))) (now (sheet .entry)) mode (length (now (output .entry))) (now (work .entry)) ⌝ }
+{
+    tell(
+        capture(file, sheet, mode, output, work),
+        passed,
+        dropped,
+        cut,
+        answer,
+    )
+}
+
+// The same of at most `most` records from byte `at` on; `answer` is then where to go on.
+#[no_mangle]
+pub extern "C" fn bromaveluth_capture_part(
+    file: &[u8],
+    sheet: &[u8],
+    mode: u8,
+    output: &mut [u8],
+    work: &mut [u32],
+    at: u64,
+    most: u64,
+    passed: &mut u64,
+    dropped: &mut u64,
+    cut: &mut u64,
+    answer: &mut u64,
+) -> u8
+    ensures { λ r. ⌜ r ≡ capturedStatus (partOf (now (file .entry)) (now (sheet .entry)) mode (length (now (output .entry))) (length (now (work .entry))) at most) ⌝ }
+    ensures { λ r. ⌜ now (passed .exit) ≡ passedCount (partOf (now (file .entry)) (now (sheet .entry)) mode (length (now (output .entry))) (length (now (work .entry))) at most) ⌝ }
+    ensures { λ r. ⌜ now (dropped .exit) ≡ droppedCount (partOf (now (file .entry)) (now (sheet .entry)) mode (length (now (output .entry))) (length (now (work .entry))) at most) ⌝ }
+    ensures { λ r. ⌜ now (cut .exit) ≡ cutCount (partOf (now (file .entry)) (now (sheet .entry)) mode (length (now (output .entry))) (length (now (work .entry))) at most) ⌝ }
+    ensures { λ r. ⌜ now (answer .exit) ≡ capturedNumber (partOf (now (file .entry)) (now (sheet .entry)) mode (length (now (output .entry))) (length (now (work .entry))) at most) ⌝ }
+    ensures { λ r. ⌜ now (output .exit) ≡ outputIn (headerOf (now (file .entry))) (now (sheet .entry)) mode (length (now (work .entry))) (now (output .entry)) ⌝ }
+    ensures { λ r. ⌜ now (work .exit) ≡ workIn (headerOf (now (file .entry))) (now (sheet .entry)) mode (length (now (output .entry))) (now (work .entry)) ⌝ }
+{
+    tell(
+        capture_part(file, sheet, mode, output, work, at as usize, most),
+        passed,
+        dropped,
+        cut,
+        answer,
+    )
 }

@@ -3,5 +3,8 @@ pub mod Coding
 pub mod Numbers
 pub mod Acts
 pub mod Runs
+pub mod SureRows
+pub mod SureArms
+pub mod SureRuns
 pub mod Examples
 pub mod Unique

@@ -134,3 +134,6 @@ run = by-result _ (λ κs a ws ws′. refl)
 
 pub step : Unique crate.step.step.ended (λ M 𝓤. crate.step.step.clauses 𝓤)
 step = by-result _ (λ κs a ws ws′. refl)
+
+pub run-sure : Unique crate.sure.run_sure.ended (λ M 𝓤. crate.sure.run_sure.clauses 𝓤)
+run-sure = by-result _ (λ κs a ws ws′. refl)

@@ -5,3 +5,4 @@ pub mod Form
 pub mod Regs
 pub mod Step
 pub mod Run
+pub mod Sure

@@ -37,7 +37,7 @@ fn not_written() -> Act
     Act::Halts { stop: 32, r0: 0 }
 }
 
-fn branch_to(holds: bool, off: u16) -> Act
+pub(crate) fn branch_to(holds: bool, off: u16) -> Act
     ensures { λ r. ⌜ r ≡ taken holds off ⌝ }
 {
     if holds {
@@ -73,7 +73,7 @@ fn wide(x: u8) -> u64
 }
 
 // The number of `size` bytes at `p`, little-endian.
-fn word(frame: &[u8], p: usize, size: u8) -> u64
+pub(crate) fn word(frame: &[u8], p: usize, size: u8) -> u64
     requires { ⌜ (p + size ≤ length (now frame)) × Width size ⌝ }
     ensures { λ r. ⌜ r ≡ leAt (now (frame .entry)) p size ⌝ }
 {
@@ -85,7 +85,7 @@ fn word(frame: &[u8], p: usize, size: u8) -> u64
 }
 
 // A load from the context: the frame's start or its end.
-fn context_act(len: u64, start: u64, dst: u8, off: u16) -> Act
+pub(crate) fn context_act(len: u64, start: u64, dst: u8, off: u16) -> Act
     ensures { λ r. ⌜ r ≡ contextAct len start dst off ⌝ }
 {
     match off {

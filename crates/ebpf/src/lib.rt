@@ -5,3 +5,4 @@ pub mod insn;
 pub mod regs;
 pub mod run;
 pub mod step;
+pub mod sure;

@@ -7,7 +7,12 @@
 //   L length(4) bytes: the listing program's lines, for these bytes as its input.
 //   C link(1) mode(1) output-bytes(4) work-numbers(4) sheet-length(4) sheet: the listing program's lines, for lent places of
 //     these sizes; output to 1 MiB, work to 1 Mi numbers.
+//   P mode(1) at(8) most(8) sheet-length(4) sheet file-length(4) file: the refusal and its place, or 0, the frames passed, dropped and cut, and
+//     where to go on; of a whole savefile if `at` is 0, else of at most `most` records from byte `at` on.
 // A case that is cut, has another tag or is longer than its buffers ends the run with a line that says which case it is.
+use capture::Captured;
+use capture::capture;
+use capture::capture_part;
 use checks::check::Checked;
 use checks::check::check_sheet_mode;
 use checks::measure::Measured;
@@ -271,6 +276,64 @@ fn listing_case(bytes: &mut [u8], output: &mut [u8], work: &mut [u32]) -> Next {
     list_within(&bytes[..n], output, work, 65536, 16384)
 }
 
+fn print_captured(answer: Captured) {
+    match answer {
+        Captured::Refused { number, place } => {
+            print_number(number as u64, b" ");
+            print_number(place as u64, b"\n");
+        }
+        Captured::Counted {
+            passed,
+            dropped,
+            cut,
+            next,
+        } => {
+            io::write_all(STDOUT_FILENO, b"0 ");
+            print_number(passed, b" ");
+            print_number(dropped, b" ");
+            print_number(cut, b" ");
+            print_number(next as u64, b"\n");
+        }
+    }
+}
+
+fn run_capture(
+    file: &[u8],
+    sheet: &[u8],
+    mode: u8,
+    output: &mut [u8],
+    work: &mut [u32],
+    at: u64,
+    most: u64,
+) {
+    if at == 0 {
+        print_captured(capture(file, sheet, mode, output, work));
+    } else {
+        print_captured(capture_part(file, sheet, mode, output, work, at as usize, most));
+    }
+}
+
+fn capture_case(file: &mut [u8], sheet: &mut [u8], output: &mut [u8], work: &mut [u32]) -> Next {
+    let mut mode = [0u8; 1];
+    if io::read_full(STDIN_FILENO, &mut mode) < 1 {
+        return Next::Broken;
+    }
+    let Number::Value(at) = read8() else {
+        return Next::Broken;
+    };
+    let Number::Value(most) = read8() else {
+        return Next::Broken;
+    };
+    let Part::Bytes(n) = read_part(sheet) else {
+        return Next::Broken;
+    };
+    let Part::Bytes(m) = read_part(file) else {
+        return Next::Broken;
+    };
+    run_capture(&file[..m], &sheet[..n], mode[0], output, work, at, most);
+    Next::More
+}
+
 fn next_case(bytes: &mut [u8], frame: &mut [u8], output: &mut [u8], work: &mut [u32]) -> Next {
     let mut tag = [0u8; 1];
     if io::read_full(STDIN_FILENO, &mut tag) < 1 {
@@ -284,6 +347,7 @@ fn next_case(bytes: &mut [u8], frame: &mut [u8], output: &mut [u8], work: &mut [
         b'E' => evaluate_case(bytes, frame),
         b'C' => compile_case(bytes, output, work),
         b'L' => listing_case(bytes, output, work),
+        b'P' => capture_case(bytes, frame, output, work),
         _ => Next::Broken,
     }
 }

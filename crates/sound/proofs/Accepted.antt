@@ -113,6 +113,9 @@ pub record Accepted (s : List ℕ) (link mode work l : ℕ) (out : List ℕ) : T
   pub counts : (stepCount s ≡ a) × (primCount s ≡ b) × (tokenCount s ≡ c)
   pub length-is : l ≡ programLength (linkOf link) (stepsPart s a) (primsPart s a b) (tokensPart s a b c) b c
   pub room : 8 * l ≤ length out
+  pub is : List Insn
+  pub outcome-is : outcomeOf s link mode (length out) work ≡ late l c (madeL is)
+  pub size : length (codeOf is) ≡ 8 * l
   pub allowed : ltb (firstRefused (linkOf link) (stepsPart s a) (primsPart s a b) b) b ≡ false
   pub near : Near mode (linkOf link) (stepsPart s a) (primsPart s a b) (tokensPart s a b c)
   pub written : take (8 * l) (outputAfter (outcomeOf s link mode (length out) work) out)
@@ -148,6 +151,9 @@ accepted s link mode work l out byte e =
       counts = found-counts s (m .a) (m .b) (m .c) (t .found);
       length-is = v .is;
       room = v .bytes;
+      is = m .is;
+      outcome-is = m .whole;
+      size = long;
       allowed = allowed;
       near = record { inside = by-tree .1 .inside; to-accept = by-tree .1 .to-accept; to-drop = by-tree .1 .to-drop };
       written = rw (m .whole) (front (8 * l) (codeOf (m .is)) (drop (8 * l) out) long ∙ ap codeOf (by-tree .0));

@@ -1,0 +1,5 @@
+pub mod Counts
+pub mod Captures
+pub mod Means
+pub mod Parts
+pub mod Unique

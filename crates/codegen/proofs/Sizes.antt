@@ -13,7 +13,7 @@ use Rattle.pieces.proofs.Leading.{settled-length}
 use Rattle.pieces.specs.Fragments.{one-of, sides, guard, load, emit-load, emit-steps, transport, fails, skips, succeeds, check, emit-cmp, emit-ethertype, emit-ip4-l4, emit-ip6-l4, emit-dual-l4}
 use Rattle.codegen.specs.Primitives.{check-word-at, check-addr4, emit-host4, emit-net, check-segment, check-net6, emit-net6, emit-l4-proto-check, prereqs-v6, prereqs-v4, emit-port-prereqs, check-port, check-ports, emit-port, check-range, emit-portrange, check-mac, emit-ether-host, emit-ether-multicast, emit-ip-broadcast, emit-ip-multicast, emit-ip6-multicast, emit-vlan, emit-mpls, emit-pppoe-session, emit-len, emit-proto, steps-and-cmp, access-at, access-rhs, emit-byte-access, emit-primitive, mirrored}
 use Rattle.checks.specs.Length as count
-use Rattle.checks.specs.Refusal.{refusal, onRaw, stepsRefusal, accessRefusal, rhsRefusal}
+use Rattle.checks.specs.Refusal.{refusal, onRaw, etherRefusal, stepsRefusal, accessRefusal, rhsRefusal}
 use Rattle.filter.specs.Ast.{etherProtoOffset}
 use Rattle.filter.specs.declared.ast.LinkType.{LinkType}
 use Rattle.filter.specs.declared.ast.LinkType.the-variants.{Ethernet, RawIp}
@@ -265,17 +265,19 @@ module _ (mode : ℕ) where
   proto-length link (Num n) = ip4-length link _
   proto-length link (Ip6Proto n) = ip6-length link _
 
-  vlan-length : (link : LinkType) (id : MaybeId) → length (emit-vlan mode link id) ≡ count.ethertypeSize link + count.idSize id 7
-  unfolding emit-vlan emit-load guard load fails count.idSize
-  vlan-length link NoId = after-ethertype link _ _ _ refl
-  vlan-length link (SomeId id) = after-ethertype link _ _ _ refl
+  -- On RawIp these three are refused.
+  vlan-length : (link : LinkType) (id : MaybeId) → etherRefusal link 0x8100 ≡ 0 → length (emit-vlan mode link id) ≡ count.ethertypeSize link + count.idSize id 7
+  unfolding emit-vlan etherProtoOffset emit-load guard load fails count.idSize etherRefusal onRaw
+  vlan-length Ethernet NoId e = after-ethertype Ethernet _ _ _ refl
+  vlan-length Ethernet (SomeId id) e = after-ethertype Ethernet _ _ _ refl
+  vlan-length RawIp id e = absurd (omega arith)
 
-  pppoe-length : (link : LinkType) (id : MaybeId) → length (emit-pppoe-session mode link id) ≡ count.ethertypeSize link + count.idSize id 6
-  unfolding emit-pppoe-session check emit-load guard load fails count.idSize
-  pppoe-length link NoId = after-ethertype link _ _ _ refl
-  pppoe-length link (SomeId id) = after-ethertype link _ _ _ refl
+  pppoe-length : (link : LinkType) (id : MaybeId) → etherRefusal link 0x8864 ≡ 0 → length (emit-pppoe-session mode link id) ≡ count.ethertypeSize link + count.idSize id 6
+  unfolding emit-pppoe-session etherProtoOffset check emit-load guard load fails count.idSize etherRefusal onRaw
+  pppoe-length Ethernet NoId e = after-ethertype Ethernet _ _ _ refl
+  pppoe-length Ethernet (SomeId id) e = after-ethertype Ethernet _ _ _ refl
+  pppoe-length RawIp id e = absurd (omega arith)
 
-  -- On RawIp it is refused.
   mpls-length : (link : LinkType) (label : MaybeLabel) → onRaw link 15 ≡ 0 → length (emit-mpls mode link label) ≡ 7 + count.labelSize label
   unfolding emit-mpls etherProtoOffset emit-load guard load fails skips count.labelSize onRaw
   mpls-length Ethernet NoLabel e = refl
@@ -341,10 +343,10 @@ module _ (mode : ℕ) where
     primitive-length IpBroadcast e = broadcast-length link
     primitive-length IpMulticast e = ip-multicast-length link
     primitive-length Ip6Multicast e = ip6-multicast-length link
-    primitive-length (Vlan id) e = vlan-length link id
+    primitive-length (Vlan id) e = vlan-length link id e
     primitive-length (Mpls label) e = mpls-length link label e
     primitive-length PppoeDiscovery e = ethertype-length link _
-    primitive-length (PppoeSession id) e = pppoe-length link id
+    primitive-length (PppoeSession id) e = pppoe-length link id e
     primitive-length (IpProtoChain n) e = ip4-length link n
     primitive-length (Ip6ProtoChain n) e = ip6-length link n
     primitive-length (Len op value) e = len-length link op value

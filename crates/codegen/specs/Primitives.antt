@@ -55,11 +55,6 @@ mirrored Src = Dst
 mirrored Dst = Src
 mirrored SrcAndDst = SrcAndDst
 
--- `ether_proto_offset().unwrap_or(fallback)`.
-unfoldable pub unwrap-or : EtherOffset → ℕ → ℕ
-unwrap-or (At off) fallback = off
-unwrap-or Nowhere fallback = fallback
-
 -- The chosen addresses, of which the source is 0 and the destination 1: the first one, and the number behind the last.
 unfoldable pub first-side : Dir → ℕ
 first-side SrcOrDst = 0
@@ -205,14 +200,17 @@ module _ (mode : ℕ) (link : LinkType) where
   unfoldable pub emit-ip6-multicast : List Slot
   emit-ip6-multicast = emit-ethertype mode link 0x86dd ++ check mode Byte (netOffset link + 24) 0xff
 
-  -- `emit_vlan`; a fallback offset is never used, as an ethertype that is not there is refused first.
-  abbrev pub vlan-id : MaybeId → List Slot
-  vlan-id NoId = []
-  vlan-id (SomeId id) =
-      emit-load Half (unwrap-or (etherProtoOffset link) 14 + 2) ++ (fixed (alu32-imm AND 4 0x0fff) ∷ fails mode JNE id)
+  -- `emit_vlan`; the number stands behind an ethertype, and where there is none there is no code.
+  abbrev pub vlan-number : ℕ → MaybeId → List Slot
+  vlan-number off NoId = []
+  vlan-number off (SomeId id) = emit-load Half (off + 2) ++ (fixed (alu32-imm AND 4 0x0fff) ∷ fails mode JNE id)
+
+  abbrev pub vlan-id : EtherOffset → MaybeId → List Slot
+  vlan-id (At off) id = vlan-number off id
+  vlan-id Nowhere id = []
 
   unfoldable pub emit-vlan : MaybeId → List Slot
-  emit-vlan id = emit-ethertype mode link 0x8100 ++ vlan-id id
+  emit-vlan id = emit-ethertype mode link 0x8100 ++ vlan-id (etherProtoOffset link) id
 
   -- `emit_mpls`.
   abbrev pub mpls-label : ℕ → MaybeLabel → List Slot
@@ -227,12 +225,16 @@ module _ (mode : ℕ) (link : LinkType) where
   emit-mpls label = mpls-at (etherProtoOffset link) label
 
   -- `emit_pppoe_session`.
-  abbrev pub session-id : MaybeId → List Slot
-  session-id NoId = []
-  session-id (SomeId id) = check mode Half (unwrap-or (etherProtoOffset link) 12 + 4) id
+  abbrev pub session-number : ℕ → MaybeId → List Slot
+  session-number off NoId = []
+  session-number off (SomeId id) = check mode Half (off + 4) id
+
+  abbrev pub session-id : EtherOffset → MaybeId → List Slot
+  session-id (At off) id = session-number off id
+  session-id Nowhere id = []
 
   unfoldable pub emit-pppoe-session : MaybeId → List Slot
-  emit-pppoe-session id = emit-ethertype mode link 0x8864 ++ session-id id
+  emit-pppoe-session id = emit-ethertype mode link 0x8864 ++ session-id (etherProtoOffset link) id
 
   -- `emit_len`.
   unfoldable pub emit-len : CmpOp → ℕ → List Slot

@@ -21,28 +21,16 @@ use pieces::load::jne;
 use pieces::load::jset;
 ghost use mathlib.Core.Path.{_≡_};
 ghost use Rattle.patches.specs.Code.{em, block};
-ghost use Prim.Native.Nat.{_+_};
 ghost use Rattle.filter.specs.Ast.{etherProtoOffset};
 ghost use Rattle.filter.specs.declared.ast.EtherOffset.the-variants.{At};
 ghost use Rattle.pieces.specs.Fragments.{Fits};
-ghost use Rattle.codegen.specs.Primitives.{unwrap-or, emit-ether-multicast, emit-ip-broadcast, emit-ip-multicast, emit-ip6-multicast};
-ghost use Rattle.codegen.specs.Primitives.{vlan-id, emit-vlan, mpls-label, mpls-at, emit-mpls, session-id, emit-pppoe-session};
+ghost use Rattle.codegen.specs.Primitives.{emit-ether-multicast, emit-ip-broadcast, emit-ip-multicast, emit-ip6-multicast};
+ghost use Rattle.codegen.specs.Primitives.{vlan-number, vlan-id, emit-vlan, mpls-label, mpls-at, emit-mpls, session-number, session-id, emit-pppoe-session};
 
 fn wide(n: u16) -> u32
     ensures { λ r. ⌜ r ≡ n ⌝ }
 {
     n as u32
-}
-
-// `ether_proto_offset().unwrap_or(fallback)`, and so many bytes past it.
-fn tag_offset(link: LinkType, fallback: u8, past: u8) -> u32
-    ensures { λ r. ⌜ r ≡ unwrap-or (etherProtoOffset link) fallback + past ⌝ }
-{
-    let n = past as u32;
-    match link {
-        LinkType::Ethernet => 12 + n,
-        LinkType::RawIp => (fallback as u32) + n,
-    }
 }
 
 // `emit_ether_multicast`: bit 0 of byte 0.
@@ -124,7 +112,30 @@ pub(crate) fn emit_ip6_multicast(
     )
 }
 
-// The number of a VLAN, if one is asked.
+// The number of a VLAN behind an ethertype at off, if one is asked.
+fn emit_vlan_number(
+    out: &mut [u8],
+    work: &mut [u32],
+    st: Patches,
+    mode: u8,
+    link: LinkType,
+    off: u32,
+    id: MaybeId,
+) -> Patches
+    requires { ⌜ Fits (vlan-number mode link off id) st ⌝ }
+    ensures { λ r. ⌜ em (now (out .exit)) (now (work .exit)) r ≡ block (vlan-number mode link off id) (em (now (out .entry)) (now (work .entry)) st) ⌝ }
+{
+    match id {
+        MaybeId::NoId => st,
+        MaybeId::SomeId(n) => {
+            let a = emit_load_from(out, work, st, AccessSize::Half, off, 2);
+            let b = push(out, work, a, Insn::and32_imm(R4, 0x0fff));
+            push_failure(out, work, b, jne(mode, wide(n)))
+        }
+    }
+}
+
+// The same by the link; one without an ethertype is refused before.
 pub(crate) fn emit_vlan_id(
     out: &mut [u8],
     work: &mut [u32],
@@ -133,16 +144,12 @@ pub(crate) fn emit_vlan_id(
     link: LinkType,
     id: MaybeId,
 ) -> Patches
-    requires { ⌜ Fits (vlan-id mode link id) st ⌝ }
-    ensures { λ r. ⌜ em (now (out .exit)) (now (work .exit)) r ≡ block (vlan-id mode link id) (em (now (out .entry)) (now (work .entry)) st) ⌝ }
+    requires { ⌜ Fits (vlan-id mode link (etherProtoOffset link) id) st ⌝ }
+    ensures { λ r. ⌜ em (now (out .exit)) (now (work .exit)) r ≡ block (vlan-id mode link (etherProtoOffset link) id) (em (now (out .entry)) (now (work .entry)) st) ⌝ }
 {
-    match id {
-        MaybeId::NoId => st,
-        MaybeId::SomeId(n) => {
-            let a = emit_load(out, work, st, AccessSize::Half, tag_offset(link, 14, 2));
-            let b = push(out, work, a, Insn::and32_imm(R4, 0x0fff));
-            push_failure(out, work, b, jne(mode, wide(n)))
-        }
+    match ether_proto_offset(link) {
+        EtherOffset::At(off) => emit_vlan_number(out, work, st, mode, link, off, id),
+        EtherOffset::Nowhere => st,
     }
 }
 
@@ -162,7 +169,29 @@ pub(crate) fn emit_vlan(
     emit_vlan_id(out, work, a, mode, link, id)
 }
 
-// The number of a PPPoE session, if one is asked.
+// The number of a PPPoE session behind an ethertype at off, if one is asked.
+fn emit_session_number(
+    out: &mut [u8],
+    work: &mut [u32],
+    st: Patches,
+    mode: u8,
+    link: LinkType,
+    off: u32,
+    id: MaybeId,
+) -> Patches
+    requires { ⌜ Fits (session-number mode link off id) st ⌝ }
+    ensures { λ r. ⌜ em (now (out .exit)) (now (work .exit)) r ≡ block (session-number mode link off id) (em (now (out .entry)) (now (work .entry)) st) ⌝ }
+{
+    match id {
+        MaybeId::NoId => st,
+        MaybeId::SomeId(n) => {
+            let a = emit_load_from(out, work, st, AccessSize::Half, off, 4);
+            push_failure(out, work, a, jne(mode, wide(n)))
+        }
+    }
+}
+
+// The same by the link; one without an ethertype is refused before.
 pub(crate) fn emit_session_id(
     out: &mut [u8],
     work: &mut [u32],
@@ -171,20 +200,12 @@ pub(crate) fn emit_session_id(
     link: LinkType,
     id: MaybeId,
 ) -> Patches
-    requires { ⌜ Fits (session-id mode link id) st ⌝ }
-    ensures { λ r. ⌜ em (now (out .exit)) (now (work .exit)) r ≡ block (session-id mode link id) (em (now (out .entry)) (now (work .entry)) st) ⌝ }
+    requires { ⌜ Fits (session-id mode link (etherProtoOffset link) id) st ⌝ }
+    ensures { λ r. ⌜ em (now (out .exit)) (now (work .exit)) r ≡ block (session-id mode link (etherProtoOffset link) id) (em (now (out .entry)) (now (work .entry)) st) ⌝ }
 {
-    match id {
-        MaybeId::NoId => st,
-        MaybeId::SomeId(n) => check(
-            out,
-            work,
-            st,
-            mode,
-            AccessSize::Half,
-            tag_offset(link, 12, 4),
-            wide(n),
-        ),
+    match ether_proto_offset(link) {
+        EtherOffset::At(off) => emit_session_number(out, work, st, mode, link, off, id),
+        EtherOffset::Nowhere => st,
     }
 }
 

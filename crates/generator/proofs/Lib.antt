@@ -5,5 +5,6 @@ pub mod Ends
 pub mod Programs
 pub mod Answers
 pub mod Admitted
+pub mod Tagged
 pub mod Examples
 pub mod Unique

@@ -14,7 +14,7 @@ use Rattle.pieces.specs.Fragments.{past, sides, guard, load, end-of, emit-load,
 use Rattle.pieces.specs.Fragments.{emit-ethertype, emit-ip4-l4, emit-ip6-l4, emit-dual-l4}
 use Rattle.codegen.specs.Primitives.{segment, segment-mask, check-word-at, check-addr4, emit-host4, emit-net, check-segment, check-net6, emit-net6, l4-number}
 use Rattle.codegen.specs.Primitives.{emit-l4-proto-check, prereqs-v6, prereqs-v4, emit-port-prereqs, check-port, check-ports, emit-port, check-range, emit-portrange}
-use Rattle.codegen.specs.Primitives.{check-mac, mirrored, emit-ether-host, emit-ether-multicast, emit-ip-broadcast, emit-ip-multicast, emit-ip6-multicast, unwrap-or}
+use Rattle.codegen.specs.Primitives.{check-mac, mirrored, emit-ether-host, emit-ether-multicast, emit-ip-broadcast, emit-ip-multicast, emit-ip6-multicast}
 use Rattle.codegen.specs.Primitives.{emit-vlan, emit-mpls, emit-pppoe-session, emit-len, emit-proto, steps-and-cmp, access-at, access-rhs, emit-byte-access, emit-primitive}
 use Rattle.filter.specs.Ast.{etherProtoOffset, netOffset}
 use Rattle.filter.specs.Record.{stepAt}
@@ -301,25 +301,19 @@ module _ (mode : ℕ) where
       (append-fits (six-fits Ethernet proto) (fixed-fits _ _ _ _ _ (let short = four-short Ethernet proto in omega arith) (omega arith) (four-fits Ethernet proto))))
   prereqs-fit RawIp proto = four-fits RawIp proto
 
-  tag-low : (link : LinkType) (fallback : ℕ) → fallback ≤ 14 → unwrap-or (etherProtoOffset link) fallback ≤ 14
-  unfolding unwrap-or etherProtoOffset
-  tag-low Ethernet fallback l = omega arith
-  tag-low RawIp fallback l = l
-
   vlan-fits : (link : LinkType) (id : MaybeId) → FineId id → FitSlots (emit-vlan mode link id)
-  unfolding emit-vlan
-  vlan-fits link NoId f = append-fits (ethertype-fits link 0x8100 (omega arith)) no-slots
-  vlan-fits link (SomeId n) f =
-      let near = tag-low link 14 (omega arith) in
-      append-fits (ethertype-fits link 0x8100 (omega arith))
-      (append-fits (emit-load-fits Half (unwrap-or (etherProtoOffset link) 14 + 2) (omega arith)) (masked-fits link AND 0x0fff (omega arith) (fails-fits JNE n (omega arith))))
+  unfolding emit-vlan etherProtoOffset
+  vlan-fits Ethernet NoId f = append-fits (ethertype-fits Ethernet 0x8100 (omega arith)) no-slots
+  vlan-fits Ethernet (SomeId n) f =
+      append-fits (ethertype-fits Ethernet 0x8100 (omega arith))
+      (append-fits (emit-load-fits Half 14 (omega arith)) (masked-fits Ethernet AND 0x0fff (omega arith) (fails-fits JNE n (omega arith))))
+  vlan-fits RawIp id f = append-fits (ethertype-fits RawIp 0x8100 (omega arith)) no-slots
 
   session-fits : (link : LinkType) (id : MaybeId) → FineId id → FitSlots (emit-pppoe-session mode link id)
-  unfolding emit-pppoe-session
-  session-fits link NoId f = append-fits (ethertype-fits link 0x8864 (omega arith)) no-slots
-  session-fits link (SomeId n) f =
-      let near = tag-low link 12 (omega arith) in
-      append-fits (ethertype-fits link 0x8864 (omega arith)) (check-fits Half (unwrap-or (etherProtoOffset link) 12 + 4) n (omega arith) (omega arith))
+  unfolding emit-pppoe-session etherProtoOffset
+  session-fits Ethernet NoId f = append-fits (ethertype-fits Ethernet 0x8864 (omega arith)) no-slots
+  session-fits Ethernet (SomeId n) f = append-fits (ethertype-fits Ethernet 0x8864 (omega arith)) (check-fits Half 16 n (omega arith) (omega arith))
+  session-fits RawIp id f = append-fits (ethertype-fits RawIp 0x8864 (omega arith)) no-slots
 
   label-fits : (link : LinkType) (label : MaybeLabel) → FineLabel label → FitSlots (emit-mpls mode link label)
   unfolding emit-mpls etherProtoOffset

@@ -15,7 +15,7 @@ use Rattle.ebpf.specs.Alu.{alu32}
 use Rattle.patches.specs.Code.{Slot}
 use Rattle.patches.specs.Code.Slot.{fixed}
 use Rattle.pieces.specs.Fragments.{emit-load, emit-cmp, fails, skips}
-use Rattle.codegen.specs.Primitives.{unwrap-or, emit-ether-multicast, emit-ip-broadcast, emit-ip-multicast, emit-ip6-multicast, emit-vlan, emit-mpls, emit-pppoe-session, emit-len}
+use Rattle.codegen.specs.Primitives.{emit-ether-multicast, emit-ip-broadcast, emit-ip-multicast, emit-ip6-multicast, emit-vlan, emit-mpls, emit-pppoe-session, emit-len}
 use Rattle.filter.specs.Ast.{etherProtoOffset, netOffset}
 use Rattle.filter.specs.declared.ast.LinkType.{LinkType}
 use Rattle.filter.specs.declared.ast.LinkType.the-variants.{Ethernet, RawIp}
@@ -113,23 +113,23 @@ module _ {frame : List ℕ} {start : ℕ} (w : Frame frame start) where
   -- "Vlan: 0x8100, low 12 bits of the half at 14."
   pub vlan-means : (mode : ℕ) (link : LinkType) (id : MaybeId) → FineId id → etherRefusal link 0x8100 ≡ 0
       → Tests frame start (emit-vlan mode link id) (vlan link frame id)
-  unfolding emit-vlan vlan tagged etherProtoOffset unwrap-or bytesOf passes
-  vlan-means mode link NoId m e = decides (both (ethertype-means w mode link 0x8100 (omega arith) e) (λ t. no-code)) (and-true _)
+  unfolding emit-vlan vlan tagged etherProtoOffset bytesOf passes
+  vlan-means mode Ethernet NoId m e = decides (both (ethertype-means w mode Ethernet 0x8100 (omega arith) e) (λ t. no-code)) (and-true _)
   vlan-means mode Ethernet (SomeId n) m e =
       decides (both (ethertype-means w mode Ethernet 0x8100 (omega arith) e)
       (λ t. changed-field w (reads-equal (takes-always mode (omega arith))) (masks 0x0fff (omega arith)) Half 14 (omega arith)))
       (rw (and-mask (number frame 2 14) 12))
-  vlan-means mode RawIp (SomeId n) m e = absurd (not-on-raw 0x8100 refl e)
+  vlan-means mode RawIp id m e = absurd (not-on-raw 0x8100 refl e)
 
   -- "PPPoE session: 0x8864, half at 16".
   pub pppoe-means : (mode : ℕ) (link : LinkType) (id : MaybeId) → FineId id → etherRefusal link 0x8864 ≡ 0
       → Tests frame start (emit-pppoe-session mode link id) (pppoe link frame id)
-  unfolding emit-pppoe-session pppoe tagged etherProtoOffset unwrap-or bytesOf
-  pppoe-means mode link NoId m e = decides (both (ethertype-means w mode link 0x8864 (omega arith) e) (λ t. no-code)) (and-true _)
+  unfolding emit-pppoe-session pppoe tagged etherProtoOffset bytesOf
+  pppoe-means mode Ethernet NoId m e = decides (both (ethertype-means w mode Ethernet 0x8864 (omega arith) e) (λ t. no-code)) (and-true _)
   pppoe-means mode Ethernet (SomeId n) m e =
       both (ethertype-means w mode Ethernet 0x8864 (omega arith) e)
       (λ t. checks w Half 16 (reads-equal (takes-always mode (omega arith))) (omega arith))
-  pppoe-means mode RawIp (SomeId n) m e = absurd (not-on-raw 0x8864 refl e)
+  pppoe-means mode RawIp id m e = absurd (not-on-raw 0x8864 refl e)
 
   -- "MPLS: 0x8847 or 0x8848", on Ethernet, before whatever is asked of the label.
   mpls-type : {ys : List Slot} {q : Bool} (mode : ℕ) → Tests frame start ys q

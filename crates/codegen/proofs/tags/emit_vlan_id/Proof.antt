@@ -1,70 +1,43 @@
--- Nothing, or the half under its mask.
+-- By the link.
 use Rattle.patches.specs.Code.{block}
-use Rattle.pieces.specs.Fragments.{fails}
-use mathlib.Core.Path.{_∙_}
-use Rattle.pieces.proofs.Pieces.{first, second, head, tail, then, step, one}
 use borrow.Author.Needs.{needs}
 use Rattle.codegen.proofs.tags.emit_vlan_id.Statement.{statement}
 use Rattle.codegen.proofs.tags.emit_vlan_id.Tie as tie
 
+ether-proto-offset-requires : tie.Need-ether-proto-offset-requires
+ether-proto-offset-requires c κs = search needs
+
+enum-known-off : tie.Need-enum-known-off
+enum-known-off c = search needs
+
+emit-vlan-number-requires : tie.Need-emit-vlan-number-requires
+emit-vlan-number-requires c κs = rw (← c .before .before .before .before .before .ether-proto-offset .ensures, c .before .before .before .off .given .1) at (c .before .before .before .before .before .before .before .before .pre)
+
 enum-told : tie.Need-enum-told
 enum-told c = search needs
 
-enum-known-id : tie.Need-enum-known-id
-enum-known-id c = search needs
-
-tag-offset-requires : tie.Need-tag-offset-requires
-tag-offset-requires c κs = search needs
-
-emit-load-requires : tie.Need-emit-load-requires
-unfolding fails
-emit-load-requires c κs = rw (c .tag-offset .ensures) (first _ _ _ (rw (c .before .before .before .before .id .given .1) at (c .before .before .before .before .before .before .before .before .pre)))
-
-and32-imm-requires : tie.Need-and32-imm-requires
-and32-imm-requires c κs = search needs
-
-push-requires : tie.Need-push-requires
-unfolding fails
-push-requires c κs = head _ _ _ (second _ _ _ _ _ _ _ _ (rw (c .before .before .before .before .before .before .before .before .before .before .before .before .id .given .1) at (c .before .before .before .before .before .before .before .before .before .before .before .before .before .before .before .before .pre)) (rw (c .before .before .before .before .before .before .before .before .tag-offset .ensures) at (c .before .before .before .before .before .before .before .emit-load .ensures)))
-
-wide-requires : tie.Need-wide-requires
-wide-requires c κs = search needs
-
-jne-requires : tie.Need-jne-requires
-jne-requires c κs = search needs
-
-push-failure-requires : tie.Need-push-failure-requires
-unfolding fails
-push-failure-requires c κs = head _ _ _ (tail _ _ _ _ _ _ _ _ (second _ _ _ _ _ _ _ _ (rw (c .before .before .before .before .before .before .before .before .before .before .before .before .before .before .before .before .before .before .before .before .before .id .given .1) at (c .before .before .before .before .before .before .before .before .before .before .before .before .before .before .before .before .before .before .before .before .before .before .before .before .before .pre)) (rw (c .before .before .before .before .before .before .before .before .before .before .before .before .before .before .before .before .before .tag-offset .ensures) at (c .before .before .before .before .before .before .before .before .before .before .before .before .before .before .before .before .emit-load .ensures))) (rw (c .before .before .before .before .before .before .before .before .before .and32-imm .ensures) at (c .before .before .before .before .before .before .before .before .push .ensures)))
-
-returns : tie.Need-returns
-unfolding fails block
-returns c = rw (c .enum-told .given .1)
-
 same-length : tie.Need-same-length
-same-length c = c .before .before .before .before .push-failure .kept .0 ∙ c .before .before .before .before .before .before .before .before .before .before .before .before .before .push .kept .0 ∙ c .before .before .before .before .before .before .before .before .before .before .before .before .before .before .before .before .before .before .before .before .before .emit-load .kept .0
+same-length c = c .before .before .before .before .emit-vlan-number .kept .0
 
 same-length-2 : tie.Need-same-length-2
-same-length-2 c = c .before .before .before .before .push-failure .kept .1 .0 ∙ c .before .before .before .before .before .before .before .before .before .before .before .before .before .push .kept .1 .0 ∙ c .before .before .before .before .before .before .before .before .before .before .before .before .before .before .before .before .before .before .before .before .before .emit-load .kept .1 .0
+same-length-2 c = c .before .before .before .before .emit-vlan-number .kept .1 .0
+
+returns : tie.Need-returns
+returns c = rw (← c .before .before .before .before .before .before .before .before .before .before .ether-proto-offset .ensures, c .before .before .before .before .before .before .before .before .off .given .1) (c .before .before .before .before .emit-vlan-number .ensures)
 
 returns-2 : tie.Need-returns-2
-unfolding fails
-returns-2 c = rw (c .before .before .before .before .before .before .before .before .before .before .before .before .before .before .before .before .before .before .before .before .before .before .before .before .before .before .id .given .1) (then _ _ _ _ _ (rw (c .before .before .before .before .before .before .before .before .before .before .before .before .before .before .before .before .before .before .before .before .before .before .tag-offset .ensures) at (c .before .before .before .before .before .before .before .before .before .before .before .before .before .before .before .before .before .before .before .before .before .emit-load .ensures)) (step _ _ _ _ _ (rw (c .before .before .before .before .before .before .before .before .before .before .before .before .before .before .and32-imm .ensures) at (c .before .before .before .before .before .before .before .before .before .before .before .before .before .push .ensures)) (one _ _ _ (rw (c .before .before .before .before .before .jne .ensures, c .before .before .before .before .before .before .wide .ensures) at (c .before .before .before .before .push-failure .ensures)))))
+unfolding block
+returns-2 c = rw (← c .before .before .ether-proto-offset .ensures, c .enum-told .given .1)
 
 pub emit-vlan-id-spec : {M : Type 1} → statement M
 emit-vlan-id-spec =
     tie.close
     (tie.spec
+    ether-proto-offset-requires
+    enum-known-off
+    emit-vlan-number-requires
     enum-told
-    enum-known-id
-    tag-offset-requires
-    emit-load-requires
-    and32-imm-requires
-    push-requires
-    wide-requires
-    jne-requires
-    push-failure-requires
-    returns
     same-length
     same-length-2
+    returns
     returns-2)

@@ -54,9 +54,15 @@ def answers(crate):
             entry["wrong"].append({"says": rest})
         elif word in ("old:", "new:", "fact:"):
             entry["wrong"][-1][word[:-1]] = rest
-        elif line and word != "#":
+        elif line and word not in ("#", "laws:"):
             raise SystemExit(f"{crate}.txt: what is this? {line}")
     return found
+
+
+def law_edits(crate):
+    """The must-fail edits that are about laws of the crate's definitions and about no function."""
+    with open(os.path.join(HERE, crate + ".txt"), encoding="utf-8") as file:
+        return {e for line in file if line.startswith("laws: ") for e in line.split()[1:]}
 
 
 def faults(crate):
@@ -74,7 +80,7 @@ def faults(crate):
                 told.append(f"{name}: `{w['old']}` is not changed")
     folder = os.path.join(ROOT, "crates", crate, "must-fail")
     edits = {e[: -len(".edit")] for e in os.listdir(folder)} if os.path.isdir(folder) else set()
-    named_edits = {e for entry in entries.values() for e in entry["edits"]}
+    named_edits = {e for entry in entries.values() for e in entry["edits"]} | law_edits(crate)
     told += [f"must-fail/{e}.edit is named under no function" for e in edits - named_edits]
     told += [f"there is no must-fail/{e}.edit" for e in named_edits - edits]
     return [f"{crate}: {t}" for t in told]

@@ -12,6 +12,7 @@ use Rattle.patches.specs.Code.Slot.{fixed, success, failure}
 use Rattle.checks.specs.Refusal.{refusal}
 use Rattle.pieces.specs.Fragments.{past, sides, guard, load, end-of, emit-load, emit-steps, transport, fails, skips, succeeds, check, emit-cmp}
 use Rattle.pieces.specs.Fragments.{emit-ethertype, emit-ip4-l4, emit-ip6-l4, emit-dual-l4}
+use Rattle.filter.specs.Prefix.{prefixMask}
 use Rattle.filter.specs.Ast.{etherProtoOffset, netOffset}
 use Rattle.filter.specs.declared.ast.LinkType.{LinkType}
 use Rattle.filter.specs.declared.ast.EtherOffset.{EtherOffset}
@@ -43,10 +44,6 @@ use Rattle.filter.specs.declared.ast.Primitive.the-variants.{Host, Host6, Port,
 -- `addr.segments()`: half i of an address, from 0 to 7.
 unfoldable pub segment : Ipv6Addr → ℕ → ℕ
 segment addr i = cond (ltb i 4) (addr .hi / 2 ^ (16 * (3 - i)) % 65536) (addr .lo / 2 ^ (16 * (7 - i)) % 65536)
-
--- `(0xffffu32 << (16 - bits)) & 0xffff`: the mask of a half of which the prefix covers so many bits.
-unfoldable pub segment-mask : ℕ → ℕ
-segment-mask bits = 65535 * 2 ^ (16 - bits) % 65536
 
 -- Source and destination change places: the Rust's MAC checks begin with the destination.
 unfoldable pub mirrored : Dir → Dir
@@ -106,7 +103,7 @@ module _ (mode : ℕ) (link : LinkType) where
   check-segment addr prefix at i =
       emit-load Half (at + 2 * i)
       ++ cond (leb (16 * i + 16) prefix) (fails mode JNE (segment addr i))
-      (fixed (alu32-imm AND 4 (segment-mask (prefix - 16 * i))) ∷ fails mode JNE (bitAnd (segment addr i) (segment-mask (prefix - 16 * i))))
+      (fixed (alu32-imm AND 4 (prefixMask (prefix - 16 * i))) ∷ fails mode JNE (bitAnd (segment addr i) (prefixMask (prefix - 16 * i))))
 
   -- "The walk over an IPv6 address stops at the first segment that starts at or past the prefix": n halves from half i on.
   unfoldable pub check-net6 : Ipv6Addr → ℕ → ℕ → ℕ → ℕ → List Slot

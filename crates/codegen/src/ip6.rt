@@ -5,6 +5,7 @@ use filter::ast::AccessSize;
 use filter::ast::Dir;
 use filter::ast::Ipv6Addr;
 use filter::ast::LinkType;
+use filter::prefix::prefix_mask;
 use patches::Patches;
 use patches::push;
 use patches::push_success;
@@ -20,7 +21,7 @@ ghost use Rattle.patches.specs.Code.{em, block};
 ghost use Rattle.filter.specs.Ast.{netOffset};
 ghost use Rattle.checks.specs.Length.{clip};
 ghost use Rattle.pieces.specs.Fragments.{Fits, Leads, lead, sides};
-ghost use Rattle.codegen.specs.Primitives.{segment, segment-mask, first-side, past-sides, side-end, over, check-segment, check-net6, emit-net6};
+ghost use Rattle.codegen.specs.Primitives.{segment, first-side, past-sides, side-end, over, check-segment, check-net6, emit-net6};
 
 // `addr.segments()[i]`.
 fn segment(addr: Ipv6Addr, i: u32) -> u32
@@ -32,14 +33,6 @@ fn segment(addr: Ipv6Addr, i: u32) -> u32
     } else {
         ((addr.lo >> (16 * (7 - i))) % 65536) as u32
     }
-}
-
-// The mask of a half of which the prefix covers so many bits.
-fn segment_mask(bits: u32) -> u32
-    requires { ⌜ bits ≤ 16 ⌝ }
-    ensures { λ r. ⌜ r ≡ segment-mask bits ⌝ }
-{
-    (0xffff << (16 - bits)) & 0xffff
 }
 
 // `check_net6`, of one half.
@@ -67,7 +60,7 @@ fn check_segment(
     if end_bit <= prefix_len {
         push_failing(out, work, a, jne(mode, seg), end)
     } else {
-        let mask = segment_mask(prefix_len - start_bit);
+        let mask = prefix_mask(prefix_len - start_bit);
         let expected = seg & mask;
         let b = push(out, work, a, Insn::and32_imm(R4, mask));
         push_failing(out, work, b, jne(mode, expected), end)

@@ -2,4 +2,5 @@ pub mod Firsts
 pub mod Wrongs
 pub mod Sheets
 pub mod Written
+pub mod Masks
 pub mod Unique

@@ -95,3 +95,6 @@ first-wrong-step = by-result _ (λ κs a ws ws′. refl)
 
 pub first-wrong-token : Unique crate.wrong.first_wrong_token.ended (λ M 𝓤. crate.wrong.first_wrong_token.clauses 𝓤)
 first-wrong-token = by-result _ (λ κs a ws ws′. refl)
+
+pub prefix-mask : Unique crate.prefix.prefix_mask.ended (λ M 𝓤. crate.prefix.prefix_mask.clauses 𝓤)
+prefix-mask = by-result _ (λ κs a ws ws′. refl)

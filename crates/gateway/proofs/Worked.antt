@@ -35,7 +35,8 @@ use Rattle.meaning.specs.Frame.{there, number, passes}
 use Rattle.meaning.specs.Meaning as M
 use Rattle.meaning.specs.Evaluate.{primitiveHolds, expressionHolds}
 use Rattle.pieces.specs.Fragments.{sides, guard, load, size-bytes, end-of, emit-load, emit-steps, transport, class-of, fails, skips, succeeds, check, emit-cmp, emit-ethertype}
-use Rattle.codegen.specs.Primitives.{segment, segment-mask, check-word-at, check-addr4, emit-host4, check-segment, check-net6, emit-net6, emit-l4-proto-check, prereqs-v4, emit-port-prereqs, check-port, check-ports, emit-port, emit-proto, steps-and-cmp, access-at, emit-byte-access, emit-primitive}
+use Rattle.filter.specs.Prefix.{prefixMask}
+use Rattle.codegen.specs.Primitives.{segment, check-word-at, check-addr4, emit-host4, check-segment, check-net6, emit-net6, emit-l4-proto-check, prereqs-v4, emit-port-prereqs, check-port, check-ports, emit-port, emit-proto, steps-and-cmp, access-at, emit-byte-access, emit-primitive}
 use Rattle.patches.specs.Chain.{reach}
 use Rattle.patches.specs.Code.{successes, failures}
 use Rattle.patches.specs.Code.Slot.{fixed}
@@ -154,7 +155,7 @@ Table =
     × (made ip-sheet 0 0 ≡ late 12 1 (madeL k2-insns))
     × ((out : List ℕ) → outputAfter (made ip-sheet 0 0) out ≡ k2 ++ drop 96 out)
     -- K3: "prefix 17: second segment masked 0x8000."
-    × (segment-mask 1 ≡ 0x8000)
+    × (prefixMask 1 ≡ 0x8000)
     × (M.halfMask 17 1 ≡ 0x8000)
     × ((mode : ℕ) (link : LinkType) (addr : Ipv6Addr) (at : ℕ) → check-segment mode link addr 17 at 1
     ≡ emit-load Half (at + 2) ++ (fixed (alu32-imm AND 4 0x8000) ∷ fails mode JNE (bitAnd (segment addr 1) 0x8000)))
@@ -203,7 +204,7 @@ unfolding
     decodeAt dirAt protoAt hostAt portAt net6At ipv6NetAt ipv6At accessAt rhsAt stepAt refusal etherRefusal onRaw protoRefusal portRefusal accessRefusal rhsRefusal stepsRefusal
     stepRefusal opRefusal L.programLength L.sizesOf L.sizeAt L.sizeOf L.countOf L.ethertypeSize L.sides L.clip L.net6Side L.l4Size L.prereqSize L.protoSize L.cmpSize L.swapSize
     L.layerSize L.accessSize count treeOf treesOf template templateOf emit-primitive emit-proto emit-host4 check-addr4 check-word-at emit-net6 check-net6 check-segment segment
-    segment-mask emit-port emit-port-prereqs prereqs-v4 emit-l4-proto-check check-ports check-port emit-byte-access access-at steps-and-cmp emit-steps emit-cmp sides transport
+    prefixMask emit-port emit-port-prereqs prereqs-v4 emit-l4-proto-check check-ports check-port emit-byte-access access-at steps-and-cmp emit-steps emit-cmp sides transport
     etherProtoOffset netOffset emit-ethertype check emit-load guard load size-bytes end-of fails skips succeeds class-of compileL emitL listed prologue epilogue endedL resolvedL setOff
     reach successes failures codeOf new to-le-bytes runOf goOf endedOf firstState stepOf turnOf statusOf placeAfter regsAfter actAt actOf exitAct branchRegAct branchAct swapAct imm32Act
     imm64Act reg64Act readable loadAct frameAct contextAct leAt withOf valueOf knownOf fresh exitForm branchRegForm branchForm swapForm imm32Form imm64Form reg64Form loadForm

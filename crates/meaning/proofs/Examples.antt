@@ -15,6 +15,7 @@ use Rattle.tree.specs.Tree.{depth, holds, treesOf, treeOf}
 use Rattle.checks.specs.Check.{wrongIn, sheetWrong, lowestWrong, takes, stepsBefore, oneTree, complete, farOffset, shiftAt, checkAccesses, checkParts, checkSections, checkOf}
 use Rattle.checks.specs.Refusal.{refusal, refusalAt}
 use Rattle.meaning.specs.Frame.{there, number, passes}
+use Rattle.filter.specs.Prefix.{prefixMask}
 use Rattle.meaning.specs.Meaning.{directed, covered, halfMask, halfOf, given, l4, ethertype, ip, ip6, address4, host4, net4, halves, net6, start4, start6, portsAt, ports, means}
 use Rattle.meaning.specs.Evaluate.{primitiveHolds, expressionHolds, firstRefused, judge, evaluated, evaluateOf}
 use Rattle.filter.specs.declared.ast.LinkType.the-variants.{Ethernet, RawIp}
@@ -40,7 +41,7 @@ pub nets : (net6 Ethernet (bare 0xdd) (record { hi = 7; lo = 8 }) 0 Src ≡ true
     × (net4 Ethernet bare4 (record { addr = 7; mask = 0 }) Src ≡ false)
     × (net4 Ethernet (bare4 ++ zeros 16) (record { addr = 7; mask = 0 }) Src ≡ true)
     × (net4 Ethernet (bare4 ++ zeros 15) (record { addr = 7; mask = 0 }) Src ≡ false)
-unfolding net6 net4 address4 halves directed ethertype passes there number etherProtoOffset netOffset covered halfMask halfOf
+unfolding net6 net4 address4 halves directed ethertype passes there number etherProtoOffset netOffset covered halfMask prefixMask halfOf
 nets = (refl, refl, refl, refl, refl)
 
 -- K3: "prefix 17: second segment masked 0x8000"; K4: "prefix 0: no address byte"; "prefixes above 128 act as 128".
@@ -50,7 +51,7 @@ pub masks : (halfMask 17 0 ≡ 0xffff)
     × (halfMask 0 0 ≡ 0)
     × (halfMask 128 7 ≡ 0xffff)
     × (halfMask 255 7 ≡ 0xffff)
-unfolding halfMask covered
+unfolding halfMask prefixMask covered
 masks = (refl, refl, refl, refl, refl, refl)
 
 -- An IPv4 header of 20 bytes that carries TCP, then ports 80 and 1025, each byte of which must be there.

@@ -27,10 +27,6 @@ sub32 hr hb e = omega arith
 pub flag : {r a b : Bool} → r ≡ a → r ≡ b → a ≡ b
 flag e t = sym e ∙ t
 
--- a mask of 16 bits, shifted in 32
-pub mask-wraps : (k : ℕ) → 65535 * 2 ^ k % 2 ^ 32 % 65536 ≡ 65535 * 2 ^ k % 65536
-mask-wraps k = omega arith
-
 -- a number between k and k is k
 pub between : (k x : ℕ) → leb k x && leb x k ≡ eqb k x
 between k x = go (leb k x) (leb x k) refl refl

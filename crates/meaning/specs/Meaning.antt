@@ -5,6 +5,7 @@ use mathlib.Core.Bool.{Bool, true, false, cond, not, _&&_, _||_}
 use lib.ListN.{length}
 use lib.Dec.{eqb, ltb, leb}
 use lib.Bits.{bitAnd, bitOr, bitXor}
+use Rattle.filter.specs.Prefix.{prefixMask}
 use Rattle.filter.specs.Ast.{etherProtoOffset, netOffset}
 use Rattle.filter.specs.Record.{stepAt}
 use Rattle.meaning.specs.Frame.{there, number, passes}
@@ -85,7 +86,7 @@ covered prefix i = cond (leb (16 * i + 16) prefix) 16 (prefix - 16 * i)
 
 -- The mask of half i: its covered bits are ones, the others zeros.
 unfoldable pub halfMask : ℕ → ℕ → ℕ
-halfMask prefix i = 65535 * 2 ^ (16 - covered prefix i) % 65536
+halfMask prefix i = prefixMask (covered prefix i)
 
 -- Half i of an address, from 0 to 7.
 unfoldable pub halfOf : Ipv6Addr → ℕ → ℕ

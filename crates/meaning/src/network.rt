@@ -13,6 +13,7 @@ use filter::ast::Ipv6Addr;
 use filter::ast::LinkType;
 use filter::ast::Proto;
 use filter::ast::net_offset;
+use filter::prefix::prefix_mask;
 ghost use mathlib.Core.Path.{_≡_};
 ghost use Prim.Native.Nat.{_+_, _*_, _/_, _^_, _<_, _≤_};
 ghost use lib.Bits.{bitAnd};
@@ -162,9 +163,7 @@ fn half_mask(prefix: u8, i: u32) -> u16
     requires { ⌜ i < 8 ⌝ }
     ensures { λ r. ⌜ r ≡ halfMask prefix i ⌝ }
 {
-    let kept = covered(prefix, i);
-    let bits: u32 = 0xffff;
-    ((bits << (16 - kept)) % 0x1_0000) as u16
+    prefix_mask(covered(prefix, i)) as u16
 }
 
 fn half_of(addr: Ipv6Addr, i: u32) -> u16

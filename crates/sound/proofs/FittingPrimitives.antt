@@ -12,7 +12,9 @@ use Rattle.patches.specs.Code.{Slot}
 use Rattle.patches.specs.Code.Slot.{fixed}
 use Rattle.pieces.specs.Fragments.{past, sides, guard, load, end-of, emit-load, alu32-of, emit-steps, transport, fails, skips, succeeds, check, emit-cmp}
 use Rattle.pieces.specs.Fragments.{emit-ethertype, emit-ip4-l4, emit-ip6-l4, emit-dual-l4}
-use Rattle.codegen.specs.Primitives.{segment, segment-mask, check-word-at, check-addr4, emit-host4, emit-net, check-segment, check-net6, emit-net6, l4-number}
+use Rattle.filter.specs.Prefix.{prefixMask}
+use Rattle.filter.proofs.Masks.{mask-low}
+use Rattle.codegen.specs.Primitives.{segment, check-word-at, check-addr4, emit-host4, emit-net, check-segment, check-net6, emit-net6, l4-number}
 use Rattle.codegen.specs.Primitives.{emit-l4-proto-check, prereqs-v6, prereqs-v4, emit-port-prereqs, check-port, check-ports, emit-port, check-range, emit-portrange}
 use Rattle.codegen.specs.Primitives.{check-mac, mirrored, emit-ether-host, emit-ether-multicast, emit-ip-broadcast, emit-ip-multicast, emit-ip6-multicast}
 use Rattle.codegen.specs.Primitives.{emit-vlan, emit-mpls, emit-pppoe-session, emit-len, emit-proto, steps-and-cmp, access-at, access-rhs, emit-byte-access, emit-primitive}
@@ -48,7 +50,7 @@ use Rattle.sound.specs.Fine.{FineProto, FineId, FineLabel, FineRhs, Fine
 use Rattle.sound.specs.Fitting.{FitSlots, no-slots}
 use Rattle.sound.proofs.Filled.{past-append}
 use Rattle.codegen.proofs.Halves.{net-low}
-use Rattle.sound.proofs.Nets6.{half-low, mask-low}
+use Rattle.sound.proofs.Nets6.{half-low}
 use Rattle.sound.proofs.Accesses.{operand-low, near-offset}
 use Rattle.sound.proofs.Fitting.{fixed-fits, success-fits, failure-fits, append-fits, one-of-fits, short-near}
 
@@ -167,14 +169,14 @@ module _ (mode : ℕ) where
       unfolding check-segment segment halfOf
       segment-fits i m = append-fits (emit-load-fits Half (at + 2 * i) m) (go (leb (16 * i + 16) prefix))
         where
-          go : (full : Bool) → FitSlots (cond full (fails mode JNE (halfOf addr i)) (fixed (alu32-imm AND 4 (segment-mask (prefix - 16 * i)))
-              ∷ fails mode JNE (bitAnd (halfOf addr i) (segment-mask (prefix - 16 * i)))))
+          go : (full : Bool) → FitSlots (cond full (fails mode JNE (halfOf addr i)) (fixed (alu32-imm AND 4 (prefixMask (prefix - 16 * i)))
+              ∷ fails mode JNE (bitAnd (halfOf addr i) (prefixMask (prefix - 16 * i)))))
           go true = fails-fits JNE (halfOf addr i) (let low = half-low addr i in omega arith)
           go false =
               let low = half-low addr i in
               let low′ = mask-low (prefix - 16 * i) in
-              masked-fits AND (segment-mask (prefix - 16 * i)) (omega arith)
-              (fails-fits JNE (bitAnd (halfOf addr i) (segment-mask (prefix - 16 * i))) (omega (arith, and-le-l (halfOf addr i) (segment-mask (prefix - 16 * i)))))
+              masked-fits AND (prefixMask (prefix - 16 * i)) (omega arith)
+              (fails-fits JNE (bitAnd (halfOf addr i) (prefixMask (prefix - 16 * i))) (omega (arith, and-le-l (halfOf addr i) (prefixMask (prefix - 16 * i)))))
 
       halves-fit : (n i : ℕ) → at + 2 * i + 2 * n < 2 ^ 15 → FitSlots (check-net6 mode link addr prefix at n i)
       unfolding check-net6
@@ -191,7 +193,7 @@ module _ (mode : ℕ) where
       segment-short i k = go (leb (16 * i + 16) prefix)
         where
           go : (full : Bool) → past (emit-load Half (at + 2 * i) ++ cond full (fails mode JNE (segment addr i))
-              (fixed (alu32-imm AND 4 (segment-mask (prefix - 16 * i))) ∷ fails mode JNE (bitAnd (segment addr i) (segment-mask (prefix - 16 * i))))) k ≤ 7 + k
+              (fixed (alu32-imm AND 4 (prefixMask (prefix - 16 * i))) ∷ fails mode JNE (bitAnd (segment addr i) (prefixMask (prefix - 16 * i))))) k ≤ 7 + k
           go true = omega arith
           go false = omega arith
 

@@ -12,7 +12,9 @@ use Rattle.ebpf.specs.Insn.{alu32-imm}
 use Rattle.patches.specs.Code.{Slot}
 use Rattle.patches.specs.Code.Slot.{fixed}
 use Rattle.pieces.specs.Fragments.{emit-load, fails, check}
-use Rattle.codegen.specs.Primitives.{segment, segment-mask, check-segment, check-net6, emit-net6}
+use Rattle.filter.specs.Prefix.{prefixMask}
+use Rattle.filter.proofs.Masks.{mask-low}
+use Rattle.codegen.specs.Primitives.{segment, check-segment, check-net6, emit-net6}
 use Rattle.filter.specs.Ast.{netOffset}
 use Rattle.filter.specs.declared.ast.LinkType.{LinkType}
 use Rattle.filter.specs.declared.ast.Ipv6Addr.{Ipv6Addr}
@@ -40,10 +42,6 @@ half-low addr i = go (ltb i 4)
     go true = omega arith
     go false = omega arith
 
-pub mask-low : (bits : ℕ) → segment-mask bits < 65536
-unfolding segment-mask
-mask-low bits = mod-lt (65535 * 2 ^ (16 - bits)) (omega arith)
-
 -- All sixteen bits of a half.
 whole-half : (h : ℕ) → h < 65536 → bitAnd h 65535 ≡ h
 whole-half h l = and-mask h 16 ∙ mod-eq-of-lt l
@@ -52,20 +50,20 @@ module _ {frame : List ℕ} {start : ℕ} (w : Frame frame start) (mode : ℕ) (
   -- The bits of a half that count, all or some of them: as the code asks, and as document 01 says it.
   half-as : (full : Bool) (bits off k : ℕ) → k < 65536 → off < 2 ^ 15
       → Tests frame start (emit-load Half off ++ cond full (fails mode JNE k)
-      (fixed (alu32-imm AND 4 (segment-mask bits)) ∷ fails mode JNE (bitAnd k (segment-mask bits))))
-      (passes frame 2 off (λ h. eqb (bitAnd h (segment-mask (cond full 16 bits))) (bitAnd k (segment-mask (cond full 16 bits)))))
-  unfolding check segment-mask passes bytesOf compared
+      (fixed (alu32-imm AND 4 (prefixMask bits)) ∷ fails mode JNE (bitAnd k (prefixMask bits))))
+      (passes frame 2 off (λ h. eqb (bitAnd h (prefixMask (cond full 16 bits))) (bitAnd k (prefixMask (cond full 16 bits)))))
+  unfolding check prefixMask passes bytesOf compared
   half-as true bits off k l m =
       decides (checks w Half off (reads Eq (takes-always mode {k = k} (omega arith))) m)
       (rw (whole-half k l, whole-half (number frame 2 off) (number2-low w off)))
   half-as false bits off k l m =
       let mask = mask-low bits in
-      changed-field w (reads Eq (takes-always mode (omega (arith, and-le-l k (segment-mask bits))))) (masks (segment-mask bits) (omega arith)) Half off m
+      changed-field w (reads Eq (takes-always mode (omega (arith, and-le-l k (prefixMask bits))))) (masks (prefixMask bits) (omega arith)) Half off m
 
   half-means : (at i : ℕ) → at + 2 * i < 2 ^ 15
       → Tests frame start (check-segment mode link addr prefix at i)
       (passes frame 2 (at + 2 * i) (λ h. eqb (bitAnd h (halfMask prefix i)) (bitAnd (halfOf addr i) (halfMask prefix i))))
-  unfolding check-segment segment segment-mask halfMask halfOf covered
+  unfolding check-segment segment prefixMask halfMask halfOf covered
   half-means at i m = half-as (leb (16 * i + 16) prefix) (prefix - 16 * i) (at + 2 * i) (halfOf addr i) (half-low addr i) m
 
   -- n halves from half i on.

@@ -35,11 +35,11 @@ push-failing-requires : tie.Need-push-failing-requires
 unfolding check-segment fails
 push-failing-requires c κs = head-to _ _ _ _ _ (second-to _ _ _ _ _ _ _ _ _ (rw (le-leb _ _ (c .before .before .before .if1 .taken)) at (c .before .before .before .before .before .before .before .before .before .before .before .before .before .before .pre .0)) (c .before .before .before .before .before .before .before .before .emit-load-to .ensures))
 
-sub-segment-mask : tie.Need-sub-segment-mask
-sub-segment-mask c = search needs
+sub-prefix-mask : tie.Need-sub-prefix-mask
+sub-prefix-mask c = search needs
 
-segment-mask-requires : tie.Need-segment-mask-requires
-segment-mask-requires c κs = search needs
+prefix-mask-requires : tie.Need-prefix-mask-requires
+prefix-mask-requires c κs = search needs
 
 and32-imm-requires : tie.Need-and32-imm-requires
 and32-imm-requires c κs = search needs
@@ -53,7 +53,7 @@ jne-requires-2 c κs = search needs
 
 push-failing-requires-2 : tie.Need-push-failing-requires-2
 unfolding led check-segment fails
-push-failing-requires-2 c κs = head-to _ _ _ _ _ (tail-to _ _ _ _ _ _ _ _ _ (second-to _ _ _ _ _ _ _ _ _ (rw (lt-leb _ _ (c .before .before .before .before .before .before .before .before .before .before .before .before .if1 .left)) at (c .before .before .before .before .before .before .before .before .before .before .before .before .before .before .before .before .before .before .before .before .before .before .before .pre .0)) (c .before .before .before .before .before .before .before .before .before .before .before .before .before .before .before .before .before .emit-load-to .ensures)) (rw (c .before .before .before .before .before .before .before .before .and32-imm .ensures, c .before .before .before .before .before .before .before .before .before .before .before .segment-mask .ensures) at (c .before .before .before .before .before .before .before .push .ensures)))
+push-failing-requires-2 c κs = head-to _ _ _ _ _ (tail-to _ _ _ _ _ _ _ _ _ (second-to _ _ _ _ _ _ _ _ _ (rw (lt-leb _ _ (c .before .before .before .before .before .before .before .before .before .before .before .before .if1 .left)) at (c .before .before .before .before .before .before .before .before .before .before .before .before .before .before .before .before .before .before .before .before .before .before .before .pre .0)) (c .before .before .before .before .before .before .before .before .before .before .before .before .before .before .before .before .before .emit-load-to .ensures)) (rw (c .before .before .before .before .before .before .before .before .and32-imm .ensures, c .before .before .before .before .before .before .before .before .before .before .before .prefix-mask .ensures) at (c .before .before .before .before .before .before .before .push .ensures)))
 
 same-length : tie.Need-same-length
 same-length c = c .before .before .before .before .push-failing .kept .0 ∙ c .before .before .before .before .before .before .before .before .before .before .before .before .before .emit-load-to .kept .0
@@ -73,7 +73,7 @@ same-length-4 c = c .before .before .before .before .push-failing2 .kept .1 .0 �
 
 returns-2 : tie.Need-returns-2
 unfolding led check-segment fails
-returns-2 c = rw (lt-leb _ _ (c .before .before .before .before .before .before .before .before .before .before .before .before .before .before .before .before .before .if1 .left)) (then-to _ _ _ _ _ _ _ _ _ _ (c .before .before .before .before .before .before .before .before .before .before .before .before .before .before .before .before .before .before .before .before .before .before .emit-load-to .ensures) (step-to _ _ _ _ _ _ _ _ _ _ (rw (c .before .before .before .before .before .before .before .before .before .before .before .before .before .and32-imm .ensures, c .before .before .before .before .before .before .before .before .before .before .before .before .before .before .before .before .segment-mask .ensures) at (c .before .before .before .before .before .before .before .before .before .before .before .before .push .ensures)) (one-to _ _ _ _ _ (rw (c .before .before .before .before .before .jne2 .ensures, c .before .before .before .before .before .before .before .before .before .before .before .before .before .before .before .before .before .before .before .before .before .before .before .before .before .segment .ensures, c .before .before .before .before .before .before .before .before .before .before .before .before .before .before .before .before .segment-mask .ensures) at (c .before .before .before .before .push-failing2 .ensures)))))
+returns-2 c = rw (lt-leb _ _ (c .before .before .before .before .before .before .before .before .before .before .before .before .before .before .before .before .before .if1 .left)) (then-to _ _ _ _ _ _ _ _ _ _ (c .before .before .before .before .before .before .before .before .before .before .before .before .before .before .before .before .before .before .before .before .before .before .emit-load-to .ensures) (step-to _ _ _ _ _ _ _ _ _ _ (rw (c .before .before .before .before .before .before .before .before .before .before .before .before .before .and32-imm .ensures, c .before .before .before .before .before .before .before .before .before .before .before .before .before .before .before .before .prefix-mask .ensures) at (c .before .before .before .before .before .before .before .before .before .before .before .before .push .ensures)) (one-to _ _ _ _ _ (rw (c .before .before .before .before .before .jne2 .ensures, c .before .before .before .before .before .before .before .before .before .before .before .before .before .before .before .before .before .before .before .before .before .before .before .before .before .segment .ensures, c .before .before .before .before .before .before .before .before .before .before .before .before .before .before .before .before .prefix-mask .ensures) at (c .before .before .before .before .push-failing2 .ensures)))))
 
 pub check-segment-spec : {M : Type 1} → statement M
 check-segment-spec =
@@ -87,8 +87,8 @@ check-segment-spec =
     emit-load-to-requires
     jne-requires
     push-failing-requires
-    sub-segment-mask
-    segment-mask-requires
+    sub-prefix-mask
+    prefix-mask-requires
     and32-imm-requires
     push-requires
     jne-requires-2

@@ -1,5 +1,8 @@
--- The shift of a 16-bit mask, cut to 16 bits.
-use Rattle.meaning.proofs.Numbers.{mask-wraps}
+-- The mask of the bits that are covered.
+use mathlib.Core.Path.{_∙_, ap}
+use native.Mathlib.Omega.{arith}
+use Rattle.filter.specs.Prefix.{prefixMask}
+use Rattle.filter.proofs.Masks.{mask-low}
 use Rattle.meaning.specs.Meaning.{halfMask}
 use borrow.Author.Needs.{needs}
 use Rattle.meaning.proofs.network.half_mask.Statement.{statement}
@@ -8,18 +11,15 @@ use Rattle.meaning.proofs.network.half_mask.Tie as tie
 covered-requires : tie.Need-covered-requires
 covered-requires c κs = search needs
 
-sub-result : tie.Need-sub-result
-sub-result c = search needs
-
-shl-result : tie.Need-shl-result
-shl-result c = search needs
+prefix-mask-requires : tie.Need-prefix-mask-requires
+prefix-mask-requires c κs = search needs
 
 cast-result : tie.Need-cast-result
-cast-result c = search needs
+cast-result c = omega (arith, c .prefix-mask .ensures, mask-low (c .before .covered .result))
 
 returns : tie.Need-returns
 unfolding halfMask
-returns c = rw (← c .covered .ensures .0) (mask-wraps _)
+returns c = c .prefix-mask .ensures ∙ ap prefixMask (c .before .covered .ensures .0)
 
 pub half-mask-spec : {M : Type 1} → statement M
-half-mask-spec = tie.close (tie.spec covered-requires sub-result shl-result cast-result returns)
+half-mask-spec = tie.close (tie.spec covered-requires prefix-mask-requires cast-result returns)

@@ -1,6 +1,7 @@
 """What the hand tools share: links and modes, refusals in words, instructions in words, the built programs, how a tool ends."""
 
 import os
+import re
 import signal
 import subprocess
 import sys
@@ -138,12 +139,15 @@ def built(program):
 
 
 def ask(program, data):
-    """What a built program writes when it reads these bytes."""
+    """What a built program writes when it reads these bytes, and the two numbers that its first line begins with."""
     built(program)
     ran = subprocess.run([os.path.join(TOOLS, 'launch'), program], input=data, stdout=subprocess.PIPE)
     if ran.returncode:
         raise Lacking('the program %s ended with %d' % (program, ran.returncode))
-    return ran.stdout
+    numbers = re.match(rb'(\d+) (\d+)\b', ran.stdout)
+    if not numbers:
+        raise Lacking('the program %s gave an answer that is not known here: %.100r' % (program, ran.stdout))
+    return ran.stdout.decode(), int(numbers[1]), int(numbers[2])
 
 
 # ---------------------------------------------------------------- how a tool ends

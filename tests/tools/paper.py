@@ -58,11 +58,11 @@ def part(data):
 def compiled(link, mode, sheet, output=MOST, work=MOST):
     """The generator's answer: refusal and place, or 0 and L."""
     case = b'C' + bytes([link, mode]) + output.to_bytes(4, 'big') + work.to_bytes(4, 'big') + part(sheet)
-    return hand.ask('replay', case).decode().split('\n')[0]
+    return '%d %d' % hand.ask('replay', case)[1:]
 
 
 def evaluated(link, sheet, frame=b''):
-    return hand.ask('replay', b'E' + bytes([link]) + part(sheet) + part(frame)).decode().strip()
+    return '%d %d' % hand.ask('replay', b'E' + bytes([link]) + part(sheet) + part(frame))[1:]
 
 
 def check(same):

@@ -7,6 +7,7 @@ import sys
 
 sys.dont_write_bytecode = True
 sys.path.insert(0, os.path.join(os.path.dirname(os.path.realpath(__file__)), '../tests/sheet'))
+import hand
 import model
 
 NOTATION = '''
@@ -33,8 +34,8 @@ TAGS = {'vlan': ('vlan', 65535), 'mpls': ('mpls', 2 ** 32 - 1), 'pppoes': ('pppo
 WORD = re.compile(r'\s*(?:(<<|>>|<=|>=|==|!=|[][()=<>+*/%&|^!-]|[A-Za-z0-9:][A-Za-z0-9_.:/-]*)|(\S))')
 
 
-class Bad(Exception):
-    pass
+class Bad(hand.Wrong):
+    """A notation that is wrong."""
 
 
 def whole(word):

@@ -8,9 +8,9 @@ A row: ours | tcpdump's. Where the words differ the meaning is the same:
 """
 import os
 import sys
-from importlib.machinery import SourceFileLoader
-from importlib.util import module_from_spec, spec_from_loader
 
+sys.path.insert(0, os.path.join(os.path.dirname(os.path.abspath(__file__)), '../../tools'))
+import notation
 from savefile import model
 
 TABLE = """
@@ -91,18 +91,9 @@ not (host 10.0.0.1 or arp)                          | not (ip host 10.0.0.1 or a
 PAIRS = [tuple(word.strip() for word in line.split(' | ')) for line in TABLE.strip().splitlines()]
 
 
-def notation():
-    """The module tools/sheet, which has no ending by which Python would know it."""
-    path = os.path.join(os.path.dirname(os.path.abspath(__file__)), '../../tools/sheet')
-    module = module_from_spec(spec_from_loader('sheet_notation', SourceFileLoader('sheet_notation', path)))
-    sys.modules['sheet_notation'] = module
-    module.__spec__.loader.exec_module(module)
-    return module
-
-
 def sheet_of(text):
     """The sheet of a filter in our notation."""
-    return notation().main(text)
+    return notation.written(text)[0]
 
 
 def low(sheet):

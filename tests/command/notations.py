@@ -4,19 +4,15 @@
 SHEETS is the program of sheets.rs.  The notations: every examples/*.txt, some that are written here, and some thousand made from a fixed
 seed, right ones and ones with a word or character changed."""
 import glob
-import importlib.machinery
-import importlib.util
 import os
 import random
 import subprocess
 import sys
 
 sys.dont_write_bytecode = True
-sys.setrecursionlimit(20000)
 ROOT = os.path.join(os.path.dirname(os.path.abspath(__file__)), '../..')
-LOADER = importlib.machinery.SourceFileLoader('tools_sheet', os.path.join(ROOT, 'tools/sheet'))
-SHEET = importlib.util.module_from_spec(importlib.util.spec_from_loader('tools_sheet', LOADER))
-LOADER.exec_module(SHEET)
+sys.path.insert(0, os.path.join(ROOT, 'tools'))
+import notation
 
 WRITTEN = '''
 ip|ip6|arp|rarp|tcp|udp|icmp|icmp6|igmp|sctp|ip proto 47|ip6 proto 0xff|ip proto 256|ip6 proto|ip proto 6 port 80
@@ -58,6 +54,10 @@ def written():
     yield ' and '.join(['len = 1'] * 300)
     yield 'raw[0]' + ' + 1' * 300 + ' = 1'
     yield 'raw[0]' + ' + 1' * 65535 + ' = 1'
+    yield 'raw[0]' + ' + 1' * 65536 + ' = 1'
+    yield 'raw[0]' + ' + 1' * 65536 + ' = 1 and'
+    for digits in ('9' * 5000, '0' * 5000 + '7'):           # more than Python reads as a number
+        yield from ('port ' + digits, 'portrange 1-' + digits, 'raw[%s] = 1' % digits, 'net 10.0.0.0/' + digits, 'len = 0x' + digits)
     yield 'raw[0]' + ' + 1' * 40000 + ' = 1 or raw[0]' + ' + 1' * 40000 + ' = 1'
     yield ' or '.join(['ip'] * 32768)
     yield ' or '.join(['ip'] * 32769)
@@ -93,16 +93,16 @@ class Maker:
 
     def access(self):
         r = self.r
-        steps = ''.join(' %s %s' % (r.choice(list(SHEET.STEPS)), self.number(2 ** 32 - 1)) for _ in range(r.choice([0, 0, 1, 2, 5])))
+        steps = ''.join(' %s %s' % (r.choice(list(notation.STEPS)), self.number(2 ** 32 - 1)) for _ in range(r.choice([0, 0, 1, 2, 5])))
         right = self.load() if r.random() < .2 else self.number(2 ** 32 - 1)
-        return '%s%s %s %s' % (self.load(), steps, r.choice(list(SHEET.CMPS)), right)
+        return '%s%s %s %s' % (self.load(), steps, r.choice(list(notation.CMPS)), right)
 
     def test(self):
         r, d = self.r, self.direction()
-        proto = r.choice(['', '', *SHEET.model.PROTOS[1:11]])
+        proto = r.choice(['', '', *notation.model.PROTOS[1:11]])
         a = self.address()
         return r.choice([
-            lambda: r.choice(SHEET.model.PROTOS[1:11]), lambda: '%s proto %s' % (r.choice(['ip', 'ip6']), self.number(255)),
+            lambda: r.choice(notation.model.PROTOS[1:11]), lambda: '%s proto %s' % (r.choice(['ip', 'ip6']), self.number(255)),
             lambda: '%shost %s' % (d, a), lambda: '%snet %s/%d' % (d, a, r.randint(0, 32 if '.' in a else 128)),
             lambda: '%snet 10.0.0.0 mask %d.0.255.0' % (d, r.randint(0, 255)),
             lambda: '%s %sport %s' % (proto, d, self.number(65535)),
@@ -112,7 +112,7 @@ class Maker:
             lambda: r.choice(['ether multicast', 'ip broadcast', 'ip multicast', 'ip6 multicast', 'inbound', 'outbound', 'pppoed']),
             lambda: '%s protochain %s' % (r.choice(['ip', 'ip6']), self.number(255)),
             lambda: r.choice(['vlan', 'mpls', 'pppoes']) + r.choice(['', ' ' + self.number(4095)]),
-            lambda: 'len %s %s' % (r.choice(list(SHEET.CMPS)), self.number(2 ** 32 - 1)), self.access, self.access])()
+            lambda: 'len %s %s' % (r.choice(list(notation.CMPS)), self.number(2 ** 32 - 1)), self.access, self.access])()
 
     def filter(self, depth):
         r = self.r
@@ -145,10 +145,10 @@ class Maker:
 def of_tool(text):
     """What tools/sheet says of a notation; with a sheet how many tests it has."""
     try:
-        sheet = SHEET.main(text)
-    except SHEET.Bad as bad:
+        sheet = notation.written(text)[0]
+    except notation.Bad as bad:
         return '! %s' % bad
-    return '%s %d' % (sheet.hex(), len(SHEET.model.content(sheet)[0]))
+    return '%s %d' % (sheet.hex(), len(notation.model.content(sheet)[0]))
 
 
 def notations():

@@ -4,7 +4,7 @@ import os
 import sys
 
 sys.dont_write_bytecode = True
-sys.path.insert(0, os.path.join(os.path.dirname(os.path.abspath(__file__)), '../../tools/differential'))
+sys.path.insert(0, os.path.join(os.path.dirname(os.path.realpath(__file__)), '../../tools/differential'))
 from generate import *      # noqa: document 01's codes, the sheet writer, tests and trees from a seed
 
 sys.setrecursionlimit(20000)

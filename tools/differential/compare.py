@@ -1,8 +1,15 @@
 #!/usr/bin/env python3
-"""compare.py STREAM ORACLE OURS EXPECTED FIRST: holds our answers to the oracle's, line by line, and the first line of each
-answer to what the model expects.  Writes the first differing case to FIRST; ends with 1 if there is one."""
+"""usage: compare.py STREAM ORACLE OURS EXPECTED FIRST
 
+Holds our answers to the oracle's, line by line, and the first line of each answer to what the model expects.  Writes the first
+differing case to FIRST; ends with 1 if there is one."""
+
+import os
 import sys
+
+sys.dont_write_bytecode = True
+sys.path.insert(0, os.path.join(os.path.dirname(os.path.realpath(__file__)), '..'))
+import hand
 
 
 def cases(path):
@@ -60,7 +67,11 @@ def main(stream, oracle, ours, expected, first):
     return 1 if different or extra or same == 0 else 0
 
 
+def begun(words):
+    if len(words) != 5:
+        raise hand.Wrong('five files are compared')
+    return main(*words)
+
+
 if __name__ == '__main__':
-    if len(sys.argv) != 6:
-        sys.exit('usage: compare.py STREAM ORACLE OURS EXPECTED FIRST')
-    sys.exit(main(*sys.argv[1:]))
+    hand.run('compare.py', __doc__, begun)

@@ -1,5 +1,7 @@
 #!/usr/bin/env python3
-"""generate.py SEED COUNT [EXPECTED]: writes COUNT cases of tag C to standard output, the same for the same seed.
+"""usage: generate.py SEED COUNT [EXPECTED] > STREAM
+
+Writes COUNT cases of tag C to standard output, the same for the same seed.
 
 First every kind, limit and shape in turn, then random trees, damaged copies and lent places too small.  Counts by refusal
 and kind go to standard error.  EXPECTED gets the first line each answer must have, from tests/sheet/model.py and, for
@@ -10,7 +12,9 @@ import os
 import sys
 
 sys.dont_write_bytecode = True
-sys.path.insert(0, os.path.join(os.path.dirname(os.path.abspath(__file__)), '../../tests/sheet'))
+HERE = os.path.dirname(os.path.realpath(__file__))
+sys.path[:0] = [os.path.join(HERE, '../../tests/sheet'), os.path.join(HERE, '..')]
+import hand
 from model import *         # noqa: the names of document 01's codes, the sheet writer, refusals 1 to 8 and 11 to 19, L
 
 MOST = 2 ** 20              # output bytes and work numbers of one case, at most
@@ -568,11 +572,17 @@ def main(seed, count, lines):
     counts.tell(sys.stderr)
 
 
-if __name__ == '__main__':
-    if len(sys.argv) not in (3, 4) or not all(x.isdigit() for x in sys.argv[1:3]):
-        sys.exit('usage: generate.py SEED COUNT [EXPECTED] > STREAM')
-    if len(sys.argv) == 4:
-        with open(sys.argv[3], 'w') as f:
-            main(int(sys.argv[1]), int(sys.argv[2]), f)
+def begun(words):
+    if len(words) not in (2, 3) or not all(x.isdigit() for x in words[:2]):
+        raise hand.Wrong('a seed and a count are numbers')
+    if sys.stdout is None:
+        raise hand.Lacking('standard output is closed')
+    if len(words) == 3:
+        with open(words[2], 'w') as f:
+            main(int(words[0]), int(words[1]), f)
     else:
-        main(int(sys.argv[1]), int(sys.argv[2]), None)
+        main(int(words[0]), int(words[1]), None)
+
+
+if __name__ == '__main__':
+    hand.run('generate.py', __doc__, begun)

@@ -7,7 +7,7 @@ import os
 import sys
 
 sys.dont_write_bytecode = True
-sys.path.insert(0, os.path.join(os.path.dirname(os.path.abspath(__file__)), '../../tests/sheet'))
+sys.path.insert(0, os.path.join(os.path.dirname(os.path.realpath(__file__)), '../../tests/sheet'))
 from model import *         # noqa: the codes, the sheet's content, what each test means
 
 LEAST = 14                  # the kernel's test run takes no shorter frame

@@ -167,7 +167,7 @@ fn case(input: &mut &[u8], messages: &Messages) -> Option<Answer> {
     (head[0] == b'C').then(|| answer(head[1], head[2], number(3), number(7), sheet, messages))
 }
 
-fn main() -> io::Result<()> {
+fn told() -> io::Result<()> {
     let mut input = Vec::new();
     let mut out = BufWriter::new(io::stdout().lock());
     let messages = Messages::ask();
@@ -197,4 +197,16 @@ fn main() -> io::Result<()> {
         }
     }
     out.flush()
+}
+
+fn main() {
+    match told() {
+        // The reader went away: there is nobody to tell.
+        Err(problem) if problem.kind() == io::ErrorKind::BrokenPipe => exit(3),
+        Err(problem) => {
+            eprintln!("oracle: {problem}");
+            exit(3);
+        }
+        Ok(()) => {}
+    }
 }

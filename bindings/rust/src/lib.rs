@@ -138,16 +138,7 @@ pub fn measure(sheet: &[u8], link: Link, mode: Mode) -> Result<Size, Refused> {
     let (mut tokens, mut output, mut work, mut answer) = (0, 0, 0, 0);
     // SAFETY: as in `compile`.
     let status = unsafe {
-        bromaveluth_measure(
-            sheet.as_ptr(),
-            sheet.len(),
-            link as u8,
-            mode as u8,
-            &mut tokens,
-            &mut output,
-            &mut work,
-            &mut answer,
-        )
+        bromaveluth_measure(sheet.as_ptr(), sheet.len(), link as u8, mode as u8, &mut tokens, &mut output, &mut work, &mut answer)
     };
     match status {
         0 => Ok(Size { length: answer as usize, tokens: tokens as usize, output: output as usize, work: work as usize }),

@@ -1,19 +1,41 @@
 /* libbromaveluth.a: a packet-filter generator, an evaluator, an eBPF step machine and a reader of captures, for x86-64 Linux.
  *
  * `rt staticlib bromaveluth` proves the functions below against their contracts (crates/bromaveluth/src/lib.rt) and writes the archive.
- * A comment here says in words what a contract says in definitions; "document 01" is the paper of rules that they follow,
- * "document 02" the paper of requests that added to it.
+ * A comment here says in words what a contract says in definitions. docs/SHEET.md says how a filter is written as a sheet,
+ * docs/GLOSSARY.md what a word means that is used without a word here; bindings/c/example.c is a whole program.
+ *
+ * In short: bromaveluth_measure says how much output and work a sheet asks for, bromaveluth_compile makes the program there.
  *
  * What a caller owes, since C cannot be asked to prove it:
  * - a pointer and the count behind it name memory of so many elements, aligned for its type; where the count is 0, nothing is read or
- *   written through the pointer, and it may be NULL. The pointers without a count (answer, r0, steps, passed, dropped, cut) point to one
- *   number each.
+ *   written through the pointer, and it may be NULL. The pointers without a count (answer, tokens, output_bytes, work_numbers, r0, steps,
+ *   passed, dropped, cut) point to one number each.
  * - what a function writes overlaps nothing else that the call is lent; until it returns, no other thread writes what is lent or reads
  *   what the function writes.
  * Beyond that any bytes, numbers and counts may be passed. No function keeps a pointer, allocates, or calls anything of the C library
  * but memcpy, memmove and memset; calls from several threads at once are fine where the memory lent to each is its own.
- * Stack, measured and not proved: 94,632 bytes for an evaluation of a tree of depth 256, the deepest that is not refused; below 1,000 bytes
- * for compile and run on the inputs tried.
+ *
+ * The program is eBPF of type XDP (BPF_PROG_TYPE_XDP): so many struct bpf_insn, little-endian. R1 is the context, whose words at 0 and 4
+ * are the frame's first byte and its end; R0 at the exit is 2 (XDP_PASS) or 1 (XDP_DROP). It uses no map, no helper, no stack and no loop.
+ * A kernel may still refuse it. Of 5,000 programs of mended mode the verifier of Linux 6.18 refused 187, of two kinds:
+ * - an instruction that no path reaches: on RawIp the filter `ip` alone, under Not or in an Or; on Ethernet an IPv6 net of prefix 0 in
+ *   either direction, under Not or left of an Or;
+ * - a long program that leaves it with more than 8,192 branches to follow at once.
+ * docs/DIFFERENCES.md has these runs. Kernels before 5.1 do not know the 32-bit comparisons of mended mode; and whether a program may be
+ * loaded at all, and how long it may be, a kernel decides by the rights of the process.
+ *
+ * Stack in bytes, the return address counted and the caller's part not: the most of all calls that tools/bench/stack makes, which prints
+ * this table, on x86-64 (each kind with each of its fields, links and modes, frames whole and cut, trees of up to 1,401 levels, refusals too).
+ * It is measured and not proved. A program that binds memset lazily needs what its loader takes at the first call as well.
+ *   function                   one primitive    any filter
+ *   bromaveluth_version                    8             8
+ *   bromaveluth_measure                  624           624
+ *   bromaveluth_compile                1,392         1,392
+ *   bromaveluth_evaluate                 848        94,752
+ *   bromaveluth_run                      136           136
+ *   bromaveluth_capture_open              80            80
+ *   bromaveluth_capture                1,760         1,760
+ *   bromaveluth_capture_part           1,744         1,744
  */
 #ifndef BROMAVELUTH_H
 #define BROMAVELUTH_H
@@ -24,6 +46,14 @@
 #ifdef __cplusplus
 extern "C" {
 #endif
+
+/* The version of this header; bromaveluth_version() is the archive's, and the two should be the same number. */
+#define BROMAVELUTH_VERSION_MAJOR 0
+#define BROMAVELUTH_VERSION_MINOR 1
+#define BROMAVELUTH_VERSION_PATCH 0
+#define BROMAVELUTH_VERSION "0.1.0"
+#define BROMAVELUTH_VERSION_NUMBER \
+    (1000000u * BROMAVELUTH_VERSION_MAJOR + 1000u * BROMAVELUTH_VERSION_MINOR + BROMAVELUTH_VERSION_PATCH)
 
 /* Links and modes; any other number is refused (1). */
 enum { BROMAVELUTH_ETHERNET = 0, BROMAVELUTH_RAW_IP = 1 };
@@ -68,6 +98,63 @@ enum {
     BROMAVELUTH_BUDGET = 34,         /* budget spent */
     BROMAVELUTH_INPUT = 35           /* length zero or no multiple of 8, or start plus frame length 2^32 or more */
 };
+
+/* The words for a refusal; words too for 0 and for a number that no function returns. */
+static inline const char *bromaveluth_refusal_text(uint8_t refusal)
+{
+    switch (refusal) {
+    case 0: return "no refusal";
+    case BROMAVELUTH_LINK_OR_MODE: return "link or mode above 1";
+    case BROMAVELUTH_LENGTH: return "sheet length differs from what its counts ask, or a count is cut";
+    case BROMAVELUTH_WRONG_BYTE: return "a code or unused byte is wrong";
+    case BROMAVELUTH_NOT_ONE_TREE: return "tokens are not one whole tree, or primitives or steps are left over or lacking";
+    case BROMAVELUTH_OFFSET: return "a byte access's left offset is negative as given, or above 32767 (Net: plus the header offset)";
+    case BROMAVELUTH_SHIFT: return "a shift by 32 or more";
+    case BROMAVELUTH_OUTPUT: return "output below 8 x L bytes";
+    case BROMAVELUTH_WORK: return "work below L + 8 x tokens numbers of 32 bits";
+    case BROMAVELUTH_TOO_DEEP: return "evaluator only: tree deeper than 256, the root counted";
+    case BROMAVELUTH_JUMP: return "jump distance above 32767";
+    case BROMAVELUTH_ETHERTYPE: return "ethertype on RawIp other than 0x0800";
+    case BROMAVELUTH_PORT_PROTOCOL: return "ports with p not 0, 5, 6 or 10";
+    case BROMAVELUTH_ETHER_HOST: return "EtherHost on RawIp";
+    case BROMAVELUTH_ETHER_MULTICAST: return "EtherMulticast on RawIp";
+    case BROMAVELUTH_MPLS: return "Mpls on RawIp";
+    case BROMAVELUTH_DIRECTION: return "Inbound, Outbound";
+    case BROMAVELUTH_LOAD: return "comparison with a load";
+    case BROMAVELUTH_DIVISION: return "first bad step: division by 0";
+    case BROMAVELUTH_MODULO: return "first bad step: Mod";
+    case BROMAVELUTH_MAGIC: return "unknown magic";
+    case BROMAVELUTH_LINK_TYPE: return "other link type";
+    case BROMAVELUTH_FILE_ENDS: return "file ends inside a header or record";
+    case BROMAVELUTH_CAPTURED_LENGTH: return "captured length above 16,384";
+    default: return "unknown refusal";
+    }
+}
+
+/* The words for a stop of the machine; words too for a number that no run ends with. */
+static inline const char *bromaveluth_stop_text(uint8_t stop)
+{
+    switch (stop) {
+    case BROMAVELUTH_EXIT: return "exit";
+    case BROMAVELUTH_FORM: return "a form emitted in neither mode";
+    case BROMAVELUTH_OUTSIDE: return "load outside the frame, or through R1 at other than 0 and 4";
+    case BROMAVELUTH_NOT_WRITTEN: return "register not yet written";
+    case BROMAVELUTH_NO_INSTRUCTION: return "no instruction there";
+    case BROMAVELUTH_BUDGET: return "budget spent";
+    case BROMAVELUTH_INPUT: return "length zero or no multiple of 8, or start plus frame length 2^32 or more";
+    default: return "unknown stop";
+    }
+}
+
+/* The archive's version, as BROMAVELUTH_VERSION_NUMBER counts it. */
+uint32_t bromaveluth_version(void);
+
+/* Says what a sheet asks for. Returns 0, in *answer the number L of its program's instructions, in *tokens the tokens of its tree, and the
+ * least room that bromaveluth_compile takes for it with the same link and mode: *output_bytes is 8 x L, *work_numbers is L + 8 x tokens,
+ * in numbers of 32 bits. With that room or more it is never refused 7 or 8, with one byte or number less it is. Else a refusal (1 to 6),
+ * its place in *answer and three zeros. What earns 10 to 19 is not looked for. Nothing else is written. */
+uint8_t bromaveluth_measure(const uint8_t *sheet, size_t sheet_bytes, uint8_t link, uint8_t mode, uint64_t *tokens,
+                            uint64_t *output_bytes, uint64_t *work_numbers, uint64_t *answer);
 
 /* Compiles a sheet. Returns 0 and the number L of the program's instructions in *answer, or a refusal (1 to 8, 10 to 19) and its place
  * there. After 0 the first 8 x L bytes of output are the program; after 1 to 8 output and work are as they were; after 10 to 19 the

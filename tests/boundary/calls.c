@@ -78,6 +78,80 @@ static void compiles(void)
     untouched(__LINE__, 48, 14);
 }
 
+static uint64_t tokens, bytes, numbers;
+
+static uint8_t measure(const uint8_t *sheet, size_t n, uint8_t link, uint8_t mode)
+{
+    answer = tokens = bytes = numbers = JUNK;
+    return bromaveluth_measure(sheet, n, link, mode, &tokens, &bytes, &numbers, &answer);
+}
+
+/* A refusal to measure: its number, its place, and three zeros. */
+static void unmeasured(int line, uint8_t status, uint8_t refusal, uint64_t place)
+{
+    same(line, "the status", status, refusal);
+    same(line, "the place", answer, place);
+    same(line, "tokens", tokens, 0);
+    same(line, "bytes", bytes, 0);
+    same(line, "numbers", numbers, 0);
+}
+
+static void measures(void)
+{
+    uint8_t sheet[sizeof ip];
+    SAME(measure(ip, sizeof ip, BROMAVELUTH_ETHERNET, BROMAVELUTH_PLAIN), 0);
+    SAME(answer, 12);
+    SAME(tokens, 1);
+    SAME(bytes, 96);
+    SAME(numbers, 20);
+    SAME(measure(ip, sizeof ip, BROMAVELUTH_RAW_IP, BROMAVELUTH_MENDED), 0);
+    SAME(answer, 6);
+    SAME(bytes, 48);
+    SAME(numbers, 14);
+    /* exactly that room is enough, one byte or one number less is not */
+    SAME(compile(ip, sizeof ip, BROMAVELUTH_RAW_IP, BROMAVELUTH_MENDED, 48, 14), 0);
+    SAME(compile(ip, sizeof ip, BROMAVELUTH_RAW_IP, BROMAVELUTH_MENDED, 47, 14), BROMAVELUTH_OUTPUT);
+    SAME(compile(ip, sizeof ip, BROMAVELUTH_RAW_IP, BROMAVELUTH_MENDED, 48, 13), BROMAVELUTH_WORK);
+    unmeasured(__LINE__, measure(ip, sizeof ip, 255, BROMAVELUTH_PLAIN), BROMAVELUTH_LINK_OR_MODE, 0);
+    unmeasured(__LINE__, measure(ip, sizeof ip, BROMAVELUTH_ETHERNET, 2), BROMAVELUTH_LINK_OR_MODE, 0);
+    unmeasured(__LINE__, measure(NULL, 0, BROMAVELUTH_ETHERNET, 2), BROMAVELUTH_LINK_OR_MODE, 0);
+    unmeasured(__LINE__, measure(NULL, 0, BROMAVELUTH_ETHERNET, BROMAVELUTH_PLAIN), BROMAVELUTH_LENGTH, 0);
+    memcpy(sheet, ip, sizeof ip);
+    sheet[27] = 1;
+    unmeasured(__LINE__, measure(sheet, sizeof sheet, BROMAVELUTH_ETHERNET, BROMAVELUTH_PLAIN), BROMAVELUTH_WRONG_BYTE, 27);
+    /* what earns 16 is measured: it counts no instruction */
+    memcpy(sheet, ip, sizeof ip);
+    sheet[4] = 21;
+    sheet[6] = 0;
+    SAME(measure(sheet, sizeof sheet, BROMAVELUTH_ETHERNET, BROMAVELUTH_PLAIN), 0);
+    SAME(answer, 6);
+}
+
+/* How many numbers have words of their own, and whether each has words. */
+static int told(const char *(*text)(uint8_t), const char *other)
+{
+    int own = 0;
+    for (int n = 0; n < 256; n++) {
+        const char *words = text((uint8_t)n);
+        SAME(words != NULL && strlen(words) > 3, 1);
+        own += strcmp(words, other) != 0;
+    }
+    return own;
+}
+
+static void texts(void)
+{
+    SAME(told(bromaveluth_refusal_text, "unknown refusal"), 1 + 19 + 4);
+    SAME(told(bromaveluth_stop_text, "unknown stop"), 7);
+    SAME(strcmp(bromaveluth_refusal_text(BROMAVELUTH_JUMP), "jump distance above 32767"), 0);
+    SAME(strcmp(bromaveluth_refusal_text(0), "no refusal"), 0);
+    SAME(strcmp(bromaveluth_stop_text(BROMAVELUTH_BUDGET), "budget spent"), 0);
+    SAME(bromaveluth_version(), BROMAVELUTH_VERSION_NUMBER);
+    char version[32];
+    snprintf(version, sizeof version, "%d.%d.%d", BROMAVELUTH_VERSION_MAJOR, BROMAVELUTH_VERSION_MINOR, BROMAVELUTH_VERSION_PATCH);
+    SAME(strcmp(version, BROMAVELUTH_VERSION), 0);
+}
+
 static void refuses(void)
 {
     uint8_t sheet[sizeof ip];
@@ -206,6 +280,8 @@ static void runs(void)
 
 int main(void)
 {
+    measures();
+    texts();
     compiles();
     refuses();
     compiles_nothing();

@@ -1,6 +1,6 @@
 //! Calls each function of the wrapper on good, bad and empty input and compares with what document 01 says.
 
-use bromaveluth::{compile, evaluate, program, run, Link, Mode, Outcome, Refusal, Refused, Stop};
+use bromaveluth::{compile, evaluate, measure, program, run, version, Link, Mode, Outcome, Refusal, Refused, Size, Stop};
 
 /// The sheet of one primitive of these first bytes.
 fn sheet(front: &[u8], tokens: &[u8]) -> Vec<u8> {
@@ -80,6 +80,21 @@ fn a_late_refusal_clears() {
 }
 
 #[test]
+fn measure_gives_the_least_room() {
+    let deep = sheet(&[7, 0, 1], &[vec![3; 100], vec![0]].concat());
+    let size = measure(&deep, Link::Ethernet, Mode::Mended).unwrap();
+    assert_eq!(size, Size { length: 112, tokens: 101, output: 896, work: 920 });
+    let room = |output, work| compile(&deep, Link::Ethernet, Mode::Mended, &mut vec![0; output], &mut vec![0; work]);
+    assert_eq!(room(size.output, size.work), Ok(112));
+    assert_eq!(room(size.output - 1, size.work), Err(refused(Refusal::Output, 0)));
+    assert_eq!(room(size.output, size.work - 1), Err(refused(Refusal::Work, 0)));
+    assert_eq!(measure(&[], Link::Ethernet, Mode::Mended), Err(refused(Refusal::Length, 0)));
+    let mut wrong = ip();
+    wrong[27] = 1;
+    assert_eq!(measure(&wrong, Link::RawIp, Mode::Plain), Err(refused(Refusal::WrongByte, 27)));
+}
+
+#[test]
 fn program_finds_its_own_room() {
     assert_eq!(program(&ip(), Link::Ethernet, Mode::Plain), Ok(listing()));
     // 10,000 Nots need 10,012 instructions and 90,020 numbers
@@ -137,4 +152,31 @@ fn numbers_and_texts_are_document_01s() {
     assert_eq!(refused(Refusal::Modulo, 4).to_string(), "refusal 19: first bad step: Mod (primitive 4)");
     assert_eq!(refused(Refusal::Work, 0).to_string(), "refusal 8: work below L + 8 x tokens numbers of 32 bits");
     assert_eq!(Stop::Budget.to_string(), "budget spent");
+}
+
+/// The header of C, which has the same words.
+const HEADER: &str = include_str!("../../bindings/c/bromaveluth.h");
+
+/// What the header returns for each number that has words of its own there: lines `case NAME: return "WORDS";` of a function, the
+/// names' numbers in an enum.
+fn header_words(function: &str) -> Vec<(u8, &'static str)> {
+    let number = |name: &str| {
+        let (_, after) = HEADER.split_once(&format!(" {name} = "))?;
+        after.split(|c: char| !c.is_ascii_digit()).next()?.parse().ok()
+    };
+    let (_, body) = HEADER.split_once(&format!("{function}(uint8_t")).unwrap();
+    let (body, _) = body.split_once("default:").unwrap();
+    let cases = body.lines().filter_map(|line| line.trim().strip_prefix("case ")?.split_once(": return \""));
+    cases.filter_map(|(name, words)| Some((number(name)?, words.strip_suffix("\";")?))).collect()
+}
+
+#[test]
+fn the_header_has_the_same_words_and_version() {
+    let refusals: Vec<_> = (1..=255).filter_map(Refusal::from_number).map(|r| (r.number(), r.text())).collect();
+    assert_eq!(header_words("bromaveluth_refusal_text"), refusals);
+    let stops = [Stop::Exit, Stop::Form, Stop::Outside, Stop::NotWritten, Stop::NoInstruction, Stop::Budget, Stop::Input];
+    assert_eq!(header_words("bromaveluth_stop_text"), stops.map(|s| (s.number(), s.text())));
+    let part = |i| env!("CARGO_PKG_VERSION").split('.').nth(i).unwrap().parse::<u32>().unwrap();
+    assert_eq!(version(), 1_000_000 * part(0) + 1_000 * part(1) + part(2));
+    assert!(HEADER.contains(concat!("#define BROMAVELUTH_VERSION \"", env!("CARGO_PKG_VERSION"), "\"")));
 }

@@ -13,7 +13,7 @@
 //! println!("{} of {} frames pass", counts.passed, counts.records());
 //! ```
 
-use crate::{Link, Mode, Refused, Room};
+use crate::{Link, Mode, Refusal, Refused};
 use std::iter::FusedIterator;
 use std::ops::AddAssign;
 
@@ -97,7 +97,7 @@ pub fn open(file: &[u8]) -> Result<Link, Refused> {
     match (status, answer) {
         (0, 0) => Ok(Link::Ethernet),
         (0, 1) => Ok(Link::RawIp),
-        (0, link) => unreachable!("document 01 has no link {link}"),
+        (0, link) => unreachable!("there is no link {link}"),
         (number, place) => Err(Refused::told(number, place)),
     }
 }
@@ -105,6 +105,31 @@ pub fn open(file: &[u8]) -> Result<Link, Refused> {
 /// Counts a whole file, in buffers of its own: never refused 7 or 8.
 pub fn capture(file: &[u8], sheet: &[u8], mode: Mode) -> Result<Counts, Refused> {
     Room::new().until_enough(|output, work| capture_in(file, sheet, mode, output, work))
+}
+
+/// Output and work of our own, for callers who lend none; the file picks the link, so the sheet is not measured first.
+struct Room {
+    output: Vec<u8>,
+    work: Vec<u32>,
+}
+
+impl Room {
+    fn new() -> Room {
+        Room { output: vec![0; 8 << 10], work: vec![0; 8 << 10] }
+    }
+
+    /// What a call answers once the room is enough for it. L and the tokens of a sheet are bounded by its 16-bit counts, so this ends.
+    fn until_enough<T>(&mut self, mut call: impl FnMut(&mut [u8], &mut [u32]) -> Result<T, Refused>) -> Result<T, Refused> {
+        loop {
+            match call(&mut self.output, &mut self.work) {
+                Err(Refused { refusal: Refusal::Output | Refusal::Work, .. }) => {
+                    self.output = vec![0; 4 * self.output.len()];
+                    self.work = vec![0; 4 * self.work.len()];
+                }
+                answer => return answer,
+            }
+        }
+    }
 }
 
 /// Counts a whole file, in lent buffers: 40 to 43 come first and leave them as they were, the sheet's refusals and the counts leave

@@ -1,9 +1,10 @@
-//! Safe functions over `libbromaveluth.a`: [`compile`] a filter's sheet, [`evaluate`] it on a frame, [`run`] its program, count what it
-//! passes of a [`mod@capture`].
+//! Safe functions over `libbromaveluth.a`: [`measure`] a filter's sheet, [`compile`] it, [`evaluate`] it on a frame, [`run`] its program,
+//! count what it passes of a [`mod@capture`].
 //!
 //! `rt staticlib bromaveluth` proves the archive's functions against their contracts and writes it; it links into x86-64 Linux programs.
 //! The functions take any bytes and any lengths; they panic only at an answer that the archive's contracts rule out, as of another
-//! archive. "Document 01" is the paper of rules that they follow, "document 02" the paper of requests that added captures.
+//! archive. docs/SHEET.md says how a filter is written as a sheet, docs/GLOSSARY.md what the words mean, bindings/c/bromaveluth.h how
+//! much stack a call takes, of what type the programs are and what a kernel may still refuse.
 //!
 //! ```no_run
 //! use bromaveluth::{program, run, Link, Mode};
@@ -44,6 +45,17 @@ pub enum Mode {
 
 #[link(name = "bromaveluth", kind = "static")]
 extern "C" {
+    fn bromaveluth_version() -> u32;
+    fn bromaveluth_measure(
+        sheet: *const u8,
+        sheet_bytes: usize,
+        link: u8,
+        mode: u8,
+        tokens: *mut u64,
+        output_bytes: *mut u64,
+        work_numbers: *mut u64,
+        answer: *mut u64,
+    ) -> u8;
     fn bromaveluth_compile(
         sheet: *const u8,
         sheet_bytes: usize,
@@ -75,6 +87,12 @@ extern "C" {
     ) -> u8;
 }
 
+/// The archive's version: 1,000,000 x major + 1,000 x minor + patch. It should be this crate's.
+pub fn version() -> u32 {
+    // SAFETY: nothing is lent.
+    unsafe { bromaveluth_version() }
+}
+
 /// Compiles a sheet and gives the number L of the program's instructions.
 ///
 /// Accepted, the first 8 x L bytes of `output` are the program. After refusals 1 to 8 `output` and `work` are as they were; after 10 to
@@ -102,37 +120,38 @@ pub fn compile(sheet: &[u8], link: Link, mode: Mode, output: &mut [u8], work: &m
     }
 }
 
+/// What a sheet asks for.
+#[derive(Clone, Copy, Debug, PartialEq, Eq, Hash)]
+pub struct Size {
+    /// L, the program's instructions.
+    pub length: usize,
+    /// The tokens of the sheet's tree.
+    pub tokens: usize,
+    /// The least output that is not refused (7): 8 x L bytes.
+    pub output: usize,
+    /// The least work that is not refused (8): L + 8 x tokens numbers.
+    pub work: usize,
+}
+
+/// What [`compile`] asks for a sheet, or one of refusals 1 to 6. What earns 10 to 19 is not looked for.
+pub fn measure(sheet: &[u8], link: Link, mode: Mode) -> Result<Size, Refused> {
+    let (mut tokens, mut output, mut work, mut answer) = (0, 0, 0, 0);
+    // SAFETY: as in `compile`.
+    let status = unsafe {
+        bromaveluth_measure(sheet.as_ptr(), sheet.len(), link as u8, mode as u8, &mut tokens, &mut output, &mut work, &mut answer)
+    };
+    match status {
+        0 => Ok(Size { length: answer as usize, tokens: tokens as usize, output: output as usize, work: work as usize }),
+        number => Err(Refused::told(number, answer)),
+    }
+}
+
 /// The program of a sheet, in buffers of its own: as [`compile`], but never refused 7 or 8.
 pub fn program(sheet: &[u8], link: Link, mode: Mode) -> Result<Vec<u8>, Refused> {
-    let mut room = Room::new();
-    let length = room.until_enough(|output, work| compile(sheet, link, mode, output, work))?;
-    room.output.truncate(8 * length);
-    Ok(room.output)
-}
-
-/// Output and work of our own, for callers who lend none.
-struct Room {
-    output: Vec<u8>,
-    work: Vec<u32>,
-}
-
-impl Room {
-    fn new() -> Room {
-        Room { output: vec![0; 8 << 10], work: vec![0; 8 << 10] }
-    }
-
-    /// What a call answers once the room is enough for it. L and the tokens of a sheet are bounded by its 16-bit counts, so this ends.
-    fn until_enough<T>(&mut self, mut call: impl FnMut(&mut [u8], &mut [u32]) -> Result<T, Refused>) -> Result<T, Refused> {
-        loop {
-            match call(&mut self.output, &mut self.work) {
-                Err(Refused { refusal: Refusal::Output | Refusal::Work, .. }) => {
-                    self.output = vec![0; 4 * self.output.len()];
-                    self.work = vec![0; 4 * self.work.len()];
-                }
-                answer => return answer,
-            }
-        }
-    }
+    let size = measure(sheet, link, mode)?;
+    let (mut output, mut work) = (vec![0; size.output], vec![0; size.work]);
+    compile(sheet, link, mode, &mut output, &mut work)?;
+    Ok(output)
 }
 
 /// Whether a sheet's expression holds on a frame, found without a program. Trees deeper than 256 are refused (9).

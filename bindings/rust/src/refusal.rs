@@ -1,4 +1,4 @@
-//! The refusals of documents 01 and 02.
+//! The refusals, by number and in words; bindings/c/bromaveluth.h has the same.
 
 use std::fmt;
 
@@ -56,7 +56,7 @@ pub enum Refusal {
     CapturedLength = 43,
 }
 
-/// Every refusal with the words of documents 01 and 02 for it.
+/// Every refusal with its words.
 const TEXTS: [(Refusal, &str); 23] = [
     (Refusal::LinkOrMode, "link or mode above 1"),
     (Refusal::Length, "sheet length differs from what its counts ask, or a count is cut"),
@@ -84,7 +84,7 @@ const TEXTS: [(Refusal, &str); 23] = [
 ];
 
 impl Refusal {
-    /// The papers' number, 1 to 19 or 40 to 43.
+    /// Its number, 1 to 19 or 40 to 43.
     pub fn number(self) -> u8 {
         self as u8
     }
@@ -94,7 +94,7 @@ impl Refusal {
         TEXTS.iter().map(|&(refusal, _)| refusal).find(|refusal| refusal.number() == number)
     }
 
-    /// The papers' words.
+    /// Its words.
     pub fn text(self) -> &'static str {
         TEXTS.iter().find(|&&(refusal, _)| refusal == self).map_or("", |&(_, text)| text)
     }
@@ -125,7 +125,7 @@ impl Refused {
     pub(crate) fn told(number: u8, place: u64) -> Refused {
         match Refusal::from_number(number) {
             Some(refusal) => Refused { refusal, place: place as usize },
-            None => unreachable!("documents 01 and 02 have no refusal {number}"),
+            None => unreachable!("there is no refusal {number}"),
         }
     }
 }

@@ -33,16 +33,16 @@ impl Stop {
             33 => Stop::NoInstruction,
             34 => Stop::Budget,
             35 => Stop::Input,
-            _ => unreachable!("document 01 has no stop {number}"),
+            _ => unreachable!("there is no stop {number}"),
         }
     }
 
-    /// Document 01's number.
+    /// Its number, as in bindings/c/bromaveluth.h.
     pub fn number(self) -> u8 {
         self as u8
     }
 
-    /// Document 01's words.
+    /// Its words, the same as there.
     pub fn text(self) -> &'static str {
         match self {
             Stop::Exit => "exit",

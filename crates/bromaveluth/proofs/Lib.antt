@@ -1,4 +1,5 @@
 pub mod Earned
 pub mod Statuses
 pub mod Stops
+pub mod Enough
 pub mod Unique

@@ -1,7 +1,15 @@
 -- Any two answers that a public function's contract allows are equal: the result, and the last value of everything lent.
-use mathlib.Core.Path.{sym, _∙_}
-use Rattle.unique.proofs.Unique.{Unique, unique, plain, beside}
+use mathlib.Core.Path.{refl, sym, _∙_}
+use Rattle.unique.proofs.Unique.{Unique, by-result, unique, plain, beside}
 use Rattle.bromaveluth.proofs as crate
+
+pub bromaveluth-version : Unique crate.bromaveluth_version.ended (λ M 𝓤. crate.bromaveluth_version.clauses 𝓤)
+bromaveluth-version = by-result _ (λ κs a ws ws′. refl)
+
+pub bromaveluth-measure : Unique crate.bromaveluth_measure.ended (λ M 𝓤. crate.bromaveluth_measure.clauses 𝓤)
+bromaveluth-measure =
+    unique (beside _ (beside _ (beside _ (beside _ (plain _)))))
+    (λ κs a r r′ ws ws′ p q. (p .0 ∙ sym (q .0), λ i. (tt, (tt, (tt, ((p .1 .0 ∙ sym (q .1 .0)) i, ((p .1 .1 .0 ∙ sym (q .1 .1 .0)) i, ((p .1 .1 .1 .0 ∙ sym (q .1 .1 .1 .0)) i, ((p .1 .1 .1 .1 ∙ sym (q .1 .1 .1 .1)) i, tt)))))))))
 
 pub bromaveluth-compile : Unique crate.bromaveluth_compile.ended (λ M 𝓤. crate.bromaveluth_compile.clauses 𝓤)
 bromaveluth-compile =

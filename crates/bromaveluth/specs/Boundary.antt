@@ -1,6 +1,11 @@
 -- How an answer of cases crosses to C: as a status number, 0 where there is no refusal, and the number beside it.
-use Prim.Native.Nat.{ℕ}
+use Prim.Native.Nat.{ℕ, _+_, _*_}
 use mathlib.Core.Bool.{cond}
+use mathlib.Core.List.{List}
+use lib.Dec.{ltb}
+use Rattle.checks.specs.Measure.{measureOf}
+use Rattle.checks.specs.declared.measure.Measured.{Measured}
+use Rattle.checks.specs.declared.measure.Measured.the-variants as measured
 use Rattle.generator.specs.declared.Compiled.{Compiled}
 use Rattle.generator.specs.declared.Compiled.the-variants as compiled
 use Rattle.capture.specs.declared.Captured.{Captured}
@@ -58,3 +63,34 @@ cutCount (captured.Counted passed dropped cut next) = cut
 unfoldable pub capturedNumber : Captured → ℕ
 capturedNumber (captured.Refused number place) = place
 capturedNumber (captured.Counted passed dropped cut next) = next
+
+-- Refusals 1 to 6, "link or mode above 1" first; or the counts and L.
+unfoldable pub askedOf : List ℕ → ℕ → ℕ → Measured
+askedOf s link mode = cond (ltb 1 mode) (measured.Refused 1 0) (measureOf s link)
+
+unfoldable pub askedStatus : Measured → ℕ
+askedStatus (measured.Refused number place) = number
+askedStatus (measured.Length steps prims tokens l) = 0
+
+unfoldable pub askedTokens : Measured → ℕ
+askedTokens (measured.Refused number place) = 0
+askedTokens (measured.Length steps prims tokens l) = tokens
+
+-- The least that is not "output below 8 x L bytes".
+unfoldable pub askedOutput : Measured → ℕ
+askedOutput (measured.Refused number place) = 0
+askedOutput (measured.Length steps prims tokens l) = 8 * l
+
+-- The least that is not "work below L + 8 x tokens numbers of 32 bits".
+unfoldable pub askedWork : Measured → ℕ
+askedWork (measured.Refused number place) = 0
+askedWork (measured.Length steps prims tokens l) = l + 8 * tokens
+
+-- The refusal's place, or L.
+unfoldable pub askedNumber : Measured → ℕ
+askedNumber (measured.Refused number place) = place
+askedNumber (measured.Length steps prims tokens l) = l
+
+-- The version of the header and of the archive: 1,000,000 x major + 1,000 x minor + patch.
+unfoldable pub version : ℕ
+version = 1000

@@ -1,8 +1,10 @@
-// The library that C and Rust programs link: compile, evaluate, run and count a capture over slices and numbers. Each returns a plain status number and
+// The library that C and Rust programs link: measure, compile, evaluate, run and count a capture over slices and numbers. Each returns a plain status number and
 // writes the numbers beside it through references; bindings/c/bromaveluth.h declares the same functions in C.
 use capture::Captured;
 use capture::capture;
 use capture::capture_part;
+use checks::measure::Measured;
+use checks::measure::measure;
 use ebpf::run::run;
 use generator::Compiled;
 use generator::compile;
@@ -19,6 +21,72 @@ ghost use Rattle.savefile.specs.Savefile.{headerOf, openedOf};
 ghost use Rattle.capture.specs.Capture.{partOf, capturedOf, outputIn, workIn};
 ghost use Rattle.bromaveluth.specs.Boundary.{compiledStatus, compiledNumber, verdictStatus, verdictNumber, openedStatus, openedNumber};
 ghost use Rattle.bromaveluth.specs.Boundary.{capturedStatus, passedCount, droppedCount, cutCount, capturedNumber};
+ghost use Rattle.bromaveluth.specs.Boundary.{askedOf, askedStatus, askedTokens, askedOutput, askedWork, askedNumber, version};
+
+// Version 0.1.0: 1,000,000 x major + 1,000 x minor + patch.
+const VERSION: u32 = 1000;
+
+// The archive's version, to be compared with the header's.
+#[no_mangle]
+pub extern "C" fn bromaveluth_version() -> u32
+    ensures { λ r. ⌜ r ≡ version ⌝ }
+{
+    VERSION
+}
+
+// Refusals 1 to 6, or the sheet's counts and L.
+fn asked(sheet: &[u8], link: u8, mode: u8) -> Measured
+    ensures { λ r. ⌜ r ≡ askedOf (now (sheet .entry)) link mode ⌝ }
+{
+    if 1 < mode {
+        Measured::Refused {
+            number: 1,
+            place: 0,
+        }
+    } else {
+        measure(sheet, link)
+    }
+}
+
+// 0, L in `answer`, and beside it the tokens and what `compile` asks of output and work; or the refusal, three zeros, and its place.
+#[no_mangle]
+pub extern "C" fn bromaveluth_measure(
+    sheet: &[u8],
+    link: u8,
+    mode: u8,
+    tokens: &mut u64,
+    output: &mut u64,
+    work: &mut u64,
+    answer: &mut u64,
+) -> u8
+    ensures { λ r. ⌜ r ≡ askedStatus (askedOf (now (sheet .entry)) link mode) ⌝ }
+    ensures { λ r. ⌜ now (tokens .exit) ≡ askedTokens (askedOf (now (sheet .entry)) link mode) ⌝ }
+    ensures { λ r. ⌜ now (output .exit) ≡ askedOutput (askedOf (now (sheet .entry)) link mode) ⌝ }
+    ensures { λ r. ⌜ now (work .exit) ≡ askedWork (askedOf (now (sheet .entry)) link mode) ⌝ }
+    ensures { λ r. ⌜ now (answer .exit) ≡ askedNumber (askedOf (now (sheet .entry)) link mode) ⌝ }
+{
+    match asked(sheet, link, mode) {
+        Measured::Refused { number, place } => {
+            *tokens = 0;
+            *output = 0;
+            *work = 0;
+            *answer = place as u64;
+            number
+        }
+        Measured::Length {
+            steps: _,
+            prims: _,
+            tokens: t,
+            length,
+        } => {
+            *tokens = t as u64;
+            *output = 8 * length;
+            *work = length + 8 * (t as u64);
+            *answer = length;
+            0
+        }
+    }
+}
 
 // 0 and the program's length L in `answer`, or the refusal and its place there.
 #[no_mangle]

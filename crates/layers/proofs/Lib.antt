@@ -1,3 +1,4 @@
 pub mod Walking
 pub mod Runs
+pub mod Held
 pub mod Unique

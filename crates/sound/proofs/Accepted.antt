@@ -115,6 +115,7 @@ pub record Accepted (s : List ℕ) (link mode work l : ℕ) (out : List ℕ) : T
   pub room : 8 * l ≤ length out
   pub is : List Insn
   pub outcome-is : outcomeOf s link mode (length out) work ≡ late l c (madeL is)
+  pub by-tree : is ≡ program (sheetCode mode (linkOf link) (stepsPart s a) (primsPart s a b) (tokensPart s a b c))
   pub size : length (codeOf is) ≡ 8 * l
   pub allowed : ltb (firstRefused (linkOf link) (stepsPart s a) (primsPart s a b) b) b ≡ false
   pub near : Near mode (linkOf link) (stepsPart s a) (primsPart s a b) (tokensPart s a b c)
@@ -153,6 +154,7 @@ accepted s link mode work l out byte e =
       room = v .bytes;
       is = m .is;
       outcome-is = m .whole;
+      by-tree = by-tree .0;
       size = long;
       allowed = allowed;
       near = record { inside = by-tree .1 .inside; to-accept = by-tree .1 .to-accept; to-drop = by-tree .1 .to-drop };

@@ -5,7 +5,7 @@ use mathlib.Core.Bool.{Bool, false, cond}
 use mathlib.Core.List.{List}
 use lib.Dec.{ltb}
 use lib.ListN.{length, getD, take}
-use Rattle.ebpf.specs.Run.{runOf}
+use Rattle.ebpf.specs.Run.{runOf, firstState}
 use Rattle.filter.specs.Ast.{linkOf}
 use Rattle.filter.specs.Sheet.{stepCount, primCount, tokenCount, stepsPart, primsPart, tokensPart}
 use Rattle.checks.specs.Check.{checkOf}
@@ -17,12 +17,14 @@ use Rattle.program.specs.Ends.{Exits, Frame}
 use Rattle.generator.specs.Compile.{outcomeOf, answerOf, outputAfter}
 use Rattle.generator.specs.declared.Compiled.the-variants.{Program}
 use Rattle.sound.specs.Demand.{Bytes, sheetHolds, SmallSheet}
+use Rattle.sound.specs.Memory.{asksOf, AllInside}
 use Rattle.sound.specs.Trees.{program}
 use Rattle.sound.specs.Sheets.{sheetCode, Small, Near}
 use Rattle.sound.proofs.Accepted.{accepted}
 use Rattle.sound.proofs.Checked.{sheet-allowed, sheet-short, tokens-few}
 use Rattle.sound.proofs.ProgramLength.{sheet-length}
 use Rattle.sound.proofs.Sheets.{sheet-runs, sheet-exits}
+use Rattle.sound.proofs.Memory.{exits-inside}
 
 -- A sheet s of bytes with a steps, b primitives and c tokens, past refusals 1 to 6; no primitive earns 11 to 19, no jump 10.
 module _ {frame : List ℕ} {start : ℕ} (w : Frame frame start) (mode link : ℕ) (s : List ℕ) (a b c : ℕ) (byte : (p : ℕ) → getD s p 0 < 256)
@@ -74,9 +76,13 @@ module _ (s : List ℕ) (link mode work l : ℕ) (out : List ℕ) (byte : Bytes 
       (same-run frame start _ _ l _ (v .written) (v .length-is)
       (compiled-runs w mode link s (v .a) (v .b) (v .c) byte (v .checked) (v .allowed) (v .near) (same-small mode s (v .a) (v .b) (n .0) (n .1) small)))
 
-  -- In either mode and with any constants: it exits with 1 or 2, so nothing outside the frame and the two context words is read.
+  -- In either mode and with any constants: it exits with 1 or 2.
   pub always-exits : (q : Bool) × Exits (cond q 2 1) l (runOf (take (8 * l) (outputAfter (outcomeOf s link mode (length out) work) out)) frame start l)
   always-exits =
       let v = accepted s link mode work l out byte compiles in
       let x = compiled-exits w mode link s (v .a) (v .b) (v .c) byte (v .checked) (v .allowed) (v .near) in
       (x .0, same-run frame start _ _ l _ (v .written) (v .length-is) (x .1))
+
+  -- "reads nothing outside the frame but its two context words": in however many steps, in either mode and with any constants.
+  pub reads-nothing-outside : (k : ℕ) → AllInside frame start (asksOf k (take (8 * l) (outputAfter (outcomeOf s link mode (length out) work) out)) frame start firstState)
+  reads-nothing-outside = exits-inside frame start (take (8 * l) (outputAfter (outcomeOf s link mode (length out) work) out)) l (always-exits .1 .exits)

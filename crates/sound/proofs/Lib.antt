@@ -25,6 +25,8 @@ pub mod Decoded
 pub mod Checked
 pub mod Sheets
 pub mod Accepted
+pub mod Memory
 pub mod Demand3
+pub mod Recorded
 pub mod Regrouped
 pub mod DoubleNot

@@ -53,7 +53,7 @@ module _ {frame : List ℕ} {start : ℕ} (w : Frame frame start) (mode : ℕ) {
       primitive-decides w mode link steps (stepsBefore prims i) (decodeAt prims (24 * i))
       (fine i i-in) (s .not-refused i i-in))
 
-  sheet-fits : Near mode link steps prims tokens → Fits (program (sheetCode mode link steps prims tokens))
+  pub sheet-fits : Near mode link steps prims tokens → Fits (program (sheetCode mode link steps prims tokens))
   unfolding sheetCode primitiveCode
   sheet-fits n =
       program-fits (tree-fits (primitiveCode mode link steps prims) (treeOf tokens) 0

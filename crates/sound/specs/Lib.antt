@@ -8,3 +8,4 @@ pub mod Trees
 pub mod Fitting
 pub mod Sheets
 pub mod Demand
+pub mod Memory

@@ -159,7 +159,7 @@ module _ (ts : List ℕ) where
         (λ (h : levels < depth (treeAt ts at)). let f = size-deep at levels h in let clash : _≡_ {A = ℕ} 0 1 = cc in absurd (omega arith))
         (at-most-or-above (depth (treeAt ts at)) levels)
 
-    deep-told : (at levels : ℕ) → sizeOf ts at levels d ≡ TooDeep → levels < depth (treeAt ts at)
+    pub deep-told : (at levels : ℕ) → sizeOf ts at levels d ≡ TooDeep → levels < depth (treeAt ts at)
     deep-told at levels e =
         ⊎-elim
         (λ (h : depth (treeAt ts at) ≤ levels). let f = size-fits at levels h in let clash : _≡_ {A = ℕ} 0 1 = cc in absurd (omega arith))

@@ -1,11 +1,12 @@
 -- What the stores of a turned part make of the output.
-use Prim.Native.Nat.{ℕ, suc, _+_, _-_, _*_, _<_, _≤_}
+use Prim.Native.Nat.{ℕ, suc, _+_, _*_, _/_, _%_, _<_, _≤_}
 use mathlib.Core.Path.{_≡_, refl, sym, ap, _∙_}
 use mathlib.Core.List.{List, [], _∷_, _++_}
 use native.Mathlib.Omega.{arith}
 use native.Mathlib.Numerals.{add-one}
-use lib.ListN.{length, getD, set, take, length-append}
-use lib.Seq.{sets, take-suc, length-take-le}
+use lib.ListN.{length, getD, set, take, drop, length-append}
+use lib.Seq.{sets, sets-eq, take-suc, length-take-le}
+use Rattle.filter.specs.Written.{written}
 use Rattle.tree.specs.Tree.{Tree, flat}
 use Rattle.tree.specs.Tree.Tree.{leaf, and, or, inv}
 use Rattle.nots.specs.Turn.{treeAt, Begins, past, wantedAt, deniedAt, laid, reachedOf}
@@ -78,3 +79,28 @@ copied-more s o i {now} h e =
     let n : 0 + length (take i s) ≡ i = omega (arith, length-take-le i s (omega arith)) in
     ap (λ l. set l i (getD s i 0)) e
     ∙ sym (ap (λ (k : ℕ). sets o 0 (take k s)) (add-one i) ∙ ap (sets o 0) (take-suc s i 0 h) ∙ sets-append o 0 (take i s) (getD s i 0 ∷ []) ∙ ap (λ (k : ℕ). set (sets o 0 (take i s)) k (getD s i 0)) n)
+
+-- The front, two bytes of a count and the tokens are the new sheet, and what stands behind them stays.
+pub written-out : (s o : List ℕ) (front size : ℕ) (W : List ℕ) {o1 o2 : List ℕ} → front ≤ length s → size ≡ length W → front + size + 2 ≤ length o
+    → o1 ≡ laid o 0 (take front s) → o2 ≡ laid (set (set o1 front (size / 256)) (front + 1) (size % 256)) (front + 2) W
+    → o2 ≡ written (take front s) W ++ drop (front + size + 2) o
+unfolding laid written
+written-out s o front size W {o1} h e room e1 e2 =
+    let F = take front s in
+    let a = length W / 256 in
+    let b = length W % 256 in
+    let X = sets o 0 F in
+    let long : length F ≡ front = length-take-le front s h in
+    let start : 0 + length F ≡ front = omega (arith, long) in
+    let two : front + 2 ≡ suc (suc front) = omega arith in
+    let new = F ++ (a ∷ b ∷ W) in
+    let all : 0 + length new ≡ front + size + 2 = omega (arith, length-append F (a ∷ b ∷ W), long, e) in
+    e2
+    ∙ ap (λ l. sets (set (set l front (size / 256)) (front + 1) (size % 256)) (front + 2) W) e1
+    ∙ ap (λ (k : ℕ). sets (set (set X front (k / 256)) (front + 1) (k % 256)) (front + 2) W) e
+    ∙ ap (λ (k : ℕ). sets (set (set X front a) k b) (front + 2) W) (add-one front)
+    ∙ ap (λ (k : ℕ). sets (set (set X front a) (suc front) b) k W) two
+    ∙ ap (λ (k : ℕ). sets X k (a ∷ b ∷ W)) (sym start)
+    ∙ sym (sets-append o 0 F (a ∷ b ∷ W))
+    ∙ sets-eq new o 0 (omega (arith, all, room))
+    ∙ ap (λ (k : ℕ). new ++ drop k o) all

@@ -195,9 +195,10 @@ pub fn push_nots(sheet: &[u8], output: &mut [u8]) -> Pushed
             prims,
             tokens,
         } => {
-            let front = 5 * (steps as usize) + 24 * (prims as usize) + 4;
-            let start = front + 2;
-            let end = start + tokens as usize;
+            let records = 5 * (steps as usize) + 24 * (prims as usize);
+            let front = records + 4;
+            let start = records + 6;
+            let end = records + (tokens as usize) + 6;
             push_tree(sheet, front, &sheet[start..end], output)
         }
     }

@@ -1,58 +1,59 @@
+-- The size that was counted decides; nothing is written before.
+use Rattle.nots.specs.Push.{outputAfter}
+use Rattle.nots.specs.Turn.{wantedAt, treeAt}
+use Rattle.tree.specs.Tree.{treeOf}
+use Rattle.nots.proofs.Rooms.{counted, room-deep, room-many, room-short, room-enough}
+use native.Mathlib.Omega.{arith}
+use denote.Ref.{now}
+use mathlib.Core.Path.{refl, sym, _∙_}
+use lib.ListN.{length, take}
+use lib.Seq.{length-take-le}
 use borrow.Author.Needs.{needs}
 use Rattle.nots.proofs.push_tree.Statement.{statement}
 use Rattle.nots.proofs.push_tree.Tie as tie
-use Rattle.nots.proofs.push_tree.Reads as reads
-use Rattle.nots.proofs.push_tree.Lts as lts
-use Rattle.nots.proofs.size_at.Reads as size-at-reads
-use Rattle.nots.proofs.write_sheet.Reads as write-sheet-reads
 
--- src/lib.rt:159:11
 size-at-requires : tie.Need-size-at-requires
 size-at-requires c κs = search needs
 
--- src/lib.rt:160:26
 enum-told : tie.Need-enum-told
 enum-told c = search needs
 
--- src/lib.rt:164:31
 enum-known-size : tie.Need-enum-known-size
 enum-known-size c = search needs
 
--- src/lib.rt:166:17
 returns : tie.Need-returns
-returns c = ?
+unfolding outputAfter
+returns c = (room-many _ _ _ (sym (c .before .before .before .before .size-at .ensures) ∙ c .before .before .size .given .1) (c .if1 .taken), refl)
 
--- src/lib.rt:171:26
 add-length : tie.Need-add-length
 add-length c = search needs
 
--- src/lib.rt:171:26
 add-length-2 : tie.Need-add-length-2
 add-length-2 c = search needs
 
--- src/lib.rt:173:17
 returns-2 : tie.Need-returns-2
-returns-2 c = ?
+unfolding outputAfter
+returns-2 c = let a = c .before .before .before .before .before .before .before .before .before .args in let n = length-take-le (a .front) (now (a .sheet)) (c .before .before .before .before .before .before .before .before .before .pre .0 .0) in
+    (room-short _ _ _ (sym (c .before .before .before .before .before .size-at .ensures) ∙ c .before .before .before .size .given .1) (c .before .if1 .left) (omega (arith, n, c .if2 .taken)), refl)
 
--- src/lib.rt:178:13
 write-sheet-requires : tie.Need-write-sheet-requires
-write-sheet-requires c κs = ?
+write-sheet-requires c κs = ((c .before .before .before .before .before .before .before .before .before .before .pre .0 .0, omega (arith, c .before .before .if1 .left)), ((c .before .before .before .before .before .before .before .before .before .before .pre .1 .1, counted (now (c .before .before .before .before .before .before .before .before .before .before .args .sheet)) (now (c .before .before .before .before .before .before .before .before .before .before .args .tokens)) 0 (sym (c .before .before .before .before .before .before .size-at .ensures) ∙ c .before .before .before .before .size .given .1)), c .before .if2 .left))
 
--- src/lib.rt:180:24
 cast-t14 : tie.Need-cast-t14
 cast-t14 c = search needs
 
--- src/lib.rt:153:1
 returns-3 : tie.Need-returns-3
-returns-3 c = ?
+unfolding outputAfter
+returns-3 c = (room-deep _ _ _ (sym (c .before .before .size-at .ensures) ∙ c .enum-told .given .1), refl)
 
--- src/lib.rt:153:1
 same-length : tie.Need-same-length
 same-length c = search needs
 
--- src/lib.rt:153:1
 returns-4 : tie.Need-returns-4
-returns-4 c = ?
+unfolding outputAfter wantedAt treeAt treeOf
+returns-4 c = let a = c .before .before .before .before .before .before .before .before .before .before .before .before .before .args in let n = length-take-le (a .front) (now (a .sheet)) (c .before .before .before .before .before .before .before .before .before .before .before .before .before .pre .0 .0) in
+    let e = sym (c .before .before .before .before .before .before .before .before .before .size-at .ensures) ∙ c .before .before .before .before .before .before .before .size .given .1 in
+    (room-enough (take (a .front) (now (a .sheet))) (now (a .tokens)) (length (now (a .output))) e n (c .before .before .before .before .before .if1 .left) (c .before .before .before .before .if2 .left), c .before .before .write-sheet .ensures)
 
 pub push-tree-spec : {M : Type 1} → statement M
 push-tree-spec =

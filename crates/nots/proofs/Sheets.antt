@@ -151,7 +151,7 @@ accepted s output {m} = on-check (wholeOf s) refl
     fits w false false true ep eq er e = absurd (clash e)
     fits w false false false ep eq er e =
         let n : m ≡ length (written (frontOf s) (flat (wantedPart (treeIn s)))) = cc in
-        record { steps = _; prims = _; tokens = _; whole = w; shallow = ltb-false _ _ ep; few = ltb-false _ _ eq; long = n; room = omega (arith, n, ltb-false _ _ er) }
+        record { steps = _; prims = _; tokens = _; whole = w; shallow = ltb-false _ _ ep; few = ltb-false _ _ eq; long = n; room = omega (arith, n, ltb-false output (length (written (frontOf s) (flat (wantedPart (treeIn s))))) er) }
 
     on-check : (x : Checked) → wholeOf s ≡ x → pushed x s output ≡ Length m → Accepted s output m
     on-check (checked.Refused number place) w e = absurd (clash e)

@@ -212,6 +212,7 @@ int main(void)
     evaluates();
     runs();
     captures();
+    nots();
     printf("C: %d checks, %d wrong\n", checks, wrong);
     return wrong != 0;
 }

@@ -99,7 +99,7 @@ module _ (steps prims tokens : List ℕ) (a b c : ℕ) where
   other-tree r u e =
       let n = length (flat u) in
       let none : first (tokenWrong (flat u)) n 0 ≡ n =
-          first-is (tokenWrong (flat u)) n n (omega arith) (λ j h. le-ltb 3 (getD (flat u) j 0) (tokens-low u j)) (λ h. absurd (omega arith)) in
+      first-is (tokenWrong (flat u)) n n (omega arith) (λ j h. le-ltb 3 (getD (flat u) j 0) (tokens-low u j)) (λ h. absurd (omega arith)) in
       record {
         right = omega (arith, lowest-token steps prims (flat u) a b n (steps-right r) (prims-right r), none);
         whole = rw (whole-flat u) (eq-eqb (leaves u) b e);

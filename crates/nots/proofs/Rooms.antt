@@ -21,7 +21,7 @@ use Rattle.checks.specs.declared.check.Checked.the-variants as checked
 use Rattle.checks.proofs.Bounds.{whole-shape}
 use Rattle.checks.proofs.Wholes.{Right, Sorted, sorted}
 use Rattle.nots.specs.Nots.{wantedPart}
-use Rattle.nots.specs.Push.{treeIn, frontOf, newSheet, roomed, pushed, pushOf, outputAfter}
+use Rattle.nots.specs.Push.{treeIn, frontOf, newSheet, roomed, pushed, pushOf, sheetAfter}
 use Rattle.nots.specs.Turn.{treeAt, Begins, turnedAt, wantedAt, sizeOf}
 use Rattle.nots.specs.Turn.Begins.{begins}
 use Rattle.nots.specs.declared.Pushed.{Pushed}
@@ -109,9 +109,9 @@ module _ (s : List ℕ) {a b c : ℕ} (t : Sorted s a b c) where
   -- The answer and the output, from those of the parts.
   pub both-are : (o : List ℕ) {r : Pushed} {o1 : List ℕ} → wholeOf s ≡ checked.Good a b c
       → r ≡ roomed (take (5 * a + 24 * b + 4) s) (treeOf (tokensPart s a b c)) (length o)
-      → o1 ≡ outputAfter r (written (take (5 * a + 24 * b + 4) s) (flat (wantedPart (treeOf (tokensPart s a b c))))) o
-      → (r ≡ pushOf s (length o)) × (o1 ≡ outputAfter (pushOf s (length o)) (newSheet s) o)
+      → o1 ≡ sheetAfter r (written (take (5 * a + 24 * b + 4) s) (flat (wantedPart (treeOf (tokensPart s a b c))))) o
+      → (r ≡ pushOf s (length o)) × (o1 ≡ sheetAfter (pushOf s (length o)) (newSheet s) o)
   both-are o e er eo =
       let new = written (take (5 * a + 24 * b + 4) s) (flat (wantedPart (treeOf (tokensPart s a b c)))) in
       let same = er ∙ sym (pushed-is (length o) e) in
-      (same, eo ∙ ap (λ (q : Pushed). outputAfter q new o) same ∙ ap (λ (n : List ℕ). outputAfter (pushOf s (length o)) n o) (sym new-is))
+      (same, eo ∙ ap (λ (q : Pushed). sheetAfter q new o) same ∙ ap (λ (n : List ℕ). sheetAfter (pushOf s (length o)) n o) (sym new-is))

@@ -27,7 +27,7 @@ use Rattle.meaning.specs.Evaluate.{primitiveHolds, expressionHolds, firstRefuse
 use Rattle.meaning.specs.declared.evaluate.Verdict.{Verdict}
 use Rattle.meaning.specs.declared.evaluate.Verdict.the-variants as verdict
 use Rattle.nots.specs.Nots.{wantedPart, lowNots}
-use Rattle.nots.specs.Push.{treeIn, frontOf, newSheet, roomed, pushed, pushOf, outputAfter}
+use Rattle.nots.specs.Push.{treeIn, frontOf, newSheet, roomed, pushed, pushOf, sheetAfter}
 use Rattle.nots.specs.declared.Pushed.{Pushed}
 use Rattle.nots.specs.declared.Pushed.the-variants.{Refused, Length}
 use Rattle.nots.proofs.Trees.{wanted-leaves, wanted-low, wanted-twice, wanted-depth, wanted-holds}
@@ -189,11 +189,11 @@ module _ (s : List ℕ) (output : ℕ) {m : ℕ} (e : pushOf s output ≡ Length
 
   -- THEOREM: done twice, the second output is the first, byte for byte; what stands behind it stays.
   pub twice : (room : List ℕ) → m ≤ length room
-      → (pushOf (newSheet s) (length room) ≡ Length m) × (outputAfter (pushOf (newSheet s) (length room)) (newSheet (newSheet s)) room ≡ newSheet s ++ drop m room)
-  unfolding outputAfter
+      → (pushOf (newSheet s) (length room) ≡ Length m) × (sheetAfter (pushOf (newSheet s) (length room)) (newSheet (newSheet s)) room ≡ newSheet s ++ drop m room)
+  unfolding sheetAfter
   twice room h =
       let same = again (length room) h in
-      (same, ap (λ x. outputAfter x (newSheet (newSheet s)) room) same ∙ ap (λ n. n ++ drop m room) (new-again s in-order))
+      (same, ap (λ x. sheetAfter x (newSheet (newSheet s)) room) same ∙ ap (λ n. n ++ drop m room) (new-again s in-order))
 
   module _ (link : LinkType) (f : List ℕ) where
     abbrev steps : List ℕ

@@ -12,6 +12,7 @@ use Rattle.nots.specs.Nots.{wantedPart, deniedPart, lowNots}
 -- "the same primitives in the same order": as many, in prefix order.
 mutual
   unfolding wantedPart leaves
+
   pub wanted-leaves : (t : Tree) → leaves (wantedPart t) ≡ leaves t
   wanted-leaves leaf = refl
   wanted-leaves (and a b) = rw (wanted-leaves a, wanted-leaves b)
@@ -30,6 +31,7 @@ both-low x y p q = rw (p, q)
 
 mutual
   unfolding wantedPart lowNots
+
   pub wanted-low : (t : Tree) → lowNots (wantedPart t) ≡ true
   wanted-low leaf = refl
   wanted-low (and a b) = both-low _ _ (wanted-low a) (wanted-low b)
@@ -45,6 +47,7 @@ mutual
 -- "doing it twice changes nothing".
 mutual
   unfolding wantedPart
+
   pub wanted-twice : (t : Tree) → wantedPart (wantedPart t) ≡ wantedPart t
   wanted-twice leaf = refl
   wanted-twice (and a b) = rw (wanted-twice a, wanted-twice b)
@@ -60,6 +63,7 @@ mutual
 -- The new tree is never deeper; under a Not that was taken away a part may be one level deeper.
 mutual
   unfolding wantedPart depth
+
   pub wanted-depth : (t : Tree) → depth (wantedPart t) ≤ depth t
   wanted-depth leaf = omega arith
   wanted-depth (and a b) = omega (arith, wanted-depth a, wanted-depth b)
@@ -78,6 +82,7 @@ two a b = length-append (flat a) (flat b)
 
 mutual
   unfolding wantedPart flat
+
   pub wanted-size : (t : Tree) → length (flat (wantedPart t)) ≤ 2 * length (flat t)
   wanted-size leaf = omega arith
   wanted-size (and a b) = omega (arith, two a b, two (wantedPart a) (wantedPart b), wanted-size a, wanted-size b)
@@ -106,6 +111,7 @@ twice false = refl
 module _ (verdict : ℕ → Bool) where
   mutual
     unfolding wantedPart holds
+
     pub wanted-holds : (t : Tree) (k : ℕ) → holds verdict (wantedPart t) k ≡ holds verdict t k
     wanted-holds leaf k = refl
     wanted-holds (and a b) k = rw (wanted-leaves a, wanted-holds a k, wanted-holds b (k + leaves a))

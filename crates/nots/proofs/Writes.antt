@@ -59,13 +59,12 @@ wrote-two F G o at to x {o1} {o2} {mid} {r} all behind em e1 er e2 =
     let token : mid .token ≡ G (at + 1) = ap (λ (m : Reached). m .token) em in
     let place : mid .to ≡ to + 1 + length A = ap (λ (m : Reached). m .to) em in
     let end : mid .to + length (F (mid .token)) ≡ to + length (F at) =
-        omega (arith, place, ap (λ (k : ℕ). length (F k)) token, ap length all, length-append A B) in
-    let next : G (mid .token) ≡ G at = ap G token ∙ sym behind in
-    (
+    omega (arith, place, ap (λ (k : ℕ). length (F k)) token, ap length all, length-append A B) in
+    let next : G (mid .token) ≡ G at = ap G token ∙ sym behind in (
       er ∙ ap (λ (k : ℕ). record { token = k; to = mid .to + length (F (mid .token)) }) next ∙ ap (λ (k : ℕ). record { token = G at; to = k }) end,
       e2 ∙ ap (λ (k : ℕ). sets o1 (mid .to) (F k)) token ∙ ap (λ (k : ℕ). sets o1 k B) place
-      ∙ ap (λ l. sets l (to + 1 + length A) B) e1 ∙ sym (sets-append (set o to x) (to + 1) A B)
-      ∙ ap (λ (k : ℕ). sets (set o to x) k (A ++ B)) (add-one to) ∙ ap (sets o to) (sym all),
+          ∙ ap (λ l. sets l (to + 1 + length A) B) e1 ∙ sym (sets-append (set o to x) (to + 1) A B)
+          ∙ ap (λ (k : ℕ). sets (set o to x) k (A ++ B)) (add-one to) ∙ ap (sets o to) (sym all),
     )
 
 -- The first bytes of the sheet, stored one by one.

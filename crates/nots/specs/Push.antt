@@ -44,6 +44,6 @@ unfoldable pub pushOf : List ℕ → ℕ → Pushed
 pushOf s output = pushed (wholeOf s) s output
 
 -- "output untouched by each"; else its first bytes are the new sheet, the rest untouched.
-unfoldable pub outputAfter : Pushed → List ℕ → List ℕ → List ℕ
-outputAfter (Refused number place) new output = output
-outputAfter (Length n) new output = new ++ drop n output
+unfoldable pub sheetAfter : Pushed → List ℕ → List ℕ → List ℕ
+sheetAfter (Refused number place) new output = output
+sheetAfter (Length n) new output = new ++ drop n output

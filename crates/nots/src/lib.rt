@@ -7,7 +7,7 @@ ghost use Prim.Native.Nat.{_+_, _<_, _≤_};
 ghost use lib.ListN.{length, take, drop};
 ghost use Rattle.filter.specs.Written.{written};
 ghost use Rattle.nots.specs.Turn.{Begins, past, wantedAt, deniedAt, otherOf, laid, reachedOf, leafSize, sizeOf};
-ghost use Rattle.nots.specs.Push.{newSheet, roomed, pushOf, outputAfter};
+ghost use Rattle.nots.specs.Push.{newSheet, roomed, pushOf, sheetAfter};
 ghost use Rattle.nots.specs.Nots.{wantedPart};
 ghost use Rattle.tree.specs.Tree.{flat, treeOf};
 
@@ -154,7 +154,7 @@ fn push_tree(sheet: &[u8], front: usize, tokens: &[u8], output: &mut [u8]) -> Pu
     requires { ⌜ (front ≤ length (now sheet)) × (front < 2000000) ⌝ }
     requires { ⌜ (length (now tokens) < 65536) × Begins (now tokens) 0 ⌝ }
     ensures { λ r. ⌜ r ≡ roomed (take front (now (sheet .entry))) (treeOf (now (tokens .entry))) (length (now (output .entry))) ⌝ }
-    ensures { λ r. ⌜ now (output .exit) ≡ outputAfter r (written (take front (now (sheet .entry))) (flat (wantedPart (treeOf (now (tokens .entry)))))) (now (output .entry)) ⌝ }
+    ensures { λ r. ⌜ now (output .exit) ≡ sheetAfter r (written (take front (now (sheet .entry))) (flat (wantedPart (treeOf (now (tokens .entry)))))) (now (output .entry)) ⌝ }
 {
     match size_at(tokens, 0, 256, false) {
         Size::TooDeep => Pushed::Refused {
@@ -186,7 +186,7 @@ fn push_tree(sheet: &[u8], front: usize, tokens: &[u8], output: &mut [u8]) -> Pu
 // Any sheet, any output.
 pub fn push_nots(sheet: &[u8], output: &mut [u8]) -> Pushed
     ensures { λ r. ⌜ r ≡ pushOf (now (sheet .entry)) (length (now (output .entry))) ⌝ }
-    ensures { λ r. ⌜ now (output .exit) ≡ outputAfter (pushOf (now (sheet .entry)) (length (now (output .entry)))) (newSheet (now (sheet .entry))) (now (output .entry)) ⌝ }
+    ensures { λ r. ⌜ now (output .exit) ≡ sheetAfter (pushOf (now (sheet .entry)) (length (now (output .entry)))) (newSheet (now (sheet .entry))) (now (output .entry)) ⌝ }
 {
     match check_whole(sheet) {
         Checked::Refused { number, place } => Pushed::Refused { number, place },

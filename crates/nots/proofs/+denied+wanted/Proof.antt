@@ -226,8 +226,7 @@ unfolding reachedOf
 denied-denied-requires-2 t c κs = let a = c .before .before .before .before .before .before .before .before .before .before .before .args in let w = two-at _ _ (c .before .before .before .before .before .before .before .before .before .before .before .pre .1 .0) (c .before .before .before .before .before .before .if2 .left) (c .before .before .before .before .before .before .before .if1 .left) in
     let mid = c .before .before .before .denied .ensures .0 in
     let token = ap (λ (m : Reached). m .token) mid in
-    let place = ap (λ (m : Reached). m .to) mid in
-    (
+    let place = ap (λ (m : Reached). m .to) mid in (
       omega (arith, token, past-above (now (a .tokens)) (a .at + 1), in-tokens _ _ (c .before .before .before .before .before .before .before .before .before .before .before .pre .1 .0), c .before .before .before .before .before .before .before .before .before .before .before .pre .0),
       (
         subst (λ (n : ℕ). Begins (now (a .tokens)) n) (sym token) (w .second),
@@ -374,8 +373,7 @@ unfolding reachedOf
 wanted-wanted-requires-2 t c κs = let a = c .before .before .before .before .before .before .before .before .before .before .args in let w = two-at _ _ (c .before .before .before .before .before .before .before .before .before .before .pre .1 .0) (c .before .before .before .before .before .if2 .left) (c .before .before .before .before .before .before .if1 .left) in
     let mid = c .before .before .before .wanted .ensures .0 in
     let token = ap (λ (m : Reached). m .token) mid in
-    let place = ap (λ (m : Reached). m .to) mid in
-    (
+    let place = ap (λ (m : Reached). m .to) mid in (
       omega (arith, token, past-above (now (a .tokens)) (a .at + 1), in-tokens _ _ (c .before .before .before .before .before .before .before .before .before .before .pre .1 .0), c .before .before .before .before .before .before .before .before .before .before .pre .0),
       (
         subst (λ (n : ℕ). Begins (now (a .tokens)) n) (sym token) (w .second),

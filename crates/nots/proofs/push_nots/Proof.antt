@@ -1,5 +1,5 @@
 -- A sheet that passes 2 to 4 is as long as its counts ask, and its tokens are one tree.
-use Rattle.nots.specs.Push.{pushed, pushOf, outputAfter}
+use Rattle.nots.specs.Push.{pushed, pushOf, sheetAfter}
 use Rattle.filter.specs.Sheet.{tokensPart}
 use Rattle.filter.proofs.Sheets.{sized}
 use Rattle.checks.proofs.Wholes.{sorted}
@@ -65,7 +65,7 @@ push-tree-requires c κs = let s = now (c .before .before .before .before .befor
     ((omega (arith, sized s (t .found)), omega arith), (rw (tokens-length s t) (omega arith), tokens-begin s t))
 
 returns : tie.Need-returns
-unfolding pushOf pushed outputAfter
+unfolding pushOf pushed sheetAfter
 returns c = rw (sym (c .before .before .before .check-whole .ensures) ∙ c .before .number .given .1) (refl, refl)
 
 same-length : tie.Need-same-length

@@ -1,5 +1,5 @@
 -- The size that was counted decides; nothing is written before.
-use Rattle.nots.specs.Push.{outputAfter}
+use Rattle.nots.specs.Push.{sheetAfter}
 use Rattle.nots.specs.Turn.{wantedAt, treeAt}
 use Rattle.tree.specs.Tree.{treeOf}
 use Rattle.nots.proofs.Rooms.{counted, room-deep, room-many, room-short, room-enough}
@@ -22,7 +22,7 @@ enum-known-size : tie.Need-enum-known-size
 enum-known-size c = search needs
 
 returns : tie.Need-returns
-unfolding outputAfter
+unfolding sheetAfter
 returns c = (room-many _ _ _ (sym (c .before .before .before .before .size-at .ensures) ∙ c .before .before .size .given .1) (c .if1 .taken), refl)
 
 add-length : tie.Need-add-length
@@ -32,7 +32,7 @@ add-length-2 : tie.Need-add-length-2
 add-length-2 c = search needs
 
 returns-2 : tie.Need-returns-2
-unfolding outputAfter
+unfolding sheetAfter
 returns-2 c = let a = c .before .before .before .before .before .before .before .before .before .args in let n = length-take-le (a .front) (now (a .sheet)) (c .before .before .before .before .before .before .before .before .before .pre .0 .0) in
     (room-short _ _ _ (sym (c .before .before .before .before .before .size-at .ensures) ∙ c .before .before .before .size .given .1) (c .before .if1 .left) (omega (arith, n, c .if2 .taken)), refl)
 
@@ -43,14 +43,14 @@ cast-t14 : tie.Need-cast-t14
 cast-t14 c = search needs
 
 returns-3 : tie.Need-returns-3
-unfolding outputAfter
+unfolding sheetAfter
 returns-3 c = (room-deep _ _ _ (sym (c .before .before .size-at .ensures) ∙ c .enum-told .given .1), refl)
 
 same-length : tie.Need-same-length
 same-length c = search needs
 
 returns-4 : tie.Need-returns-4
-unfolding outputAfter wantedAt treeAt treeOf
+unfolding sheetAfter wantedAt treeAt treeOf
 returns-4 c = let a = c .before .before .before .before .before .before .before .before .before .before .before .before .before .args in let n = length-take-le (a .front) (now (a .sheet)) (c .before .before .before .before .before .before .before .before .before .before .before .before .before .pre .0 .0) in
     let e = sym (c .before .before .before .before .before .before .before .before .before .size-at .ensures) ∙ c .before .before .before .before .before .before .before .size .given .1 in
     (room-enough (take (a .front) (now (a .sheet))) (now (a .tokens)) (length (now (a .output))) e n (c .before .before .before .before .before .if1 .left) (c .before .before .before .before .if2 .left), c .before .before .write-sheet .ensures)

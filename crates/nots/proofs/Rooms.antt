@@ -1,25 +1,23 @@
 -- Refusals 9, 50 and 7, by the size that was counted; and the parts of a sheet that passes 2 to 4.
 use Prim.Native.Nat.{ℕ, _+_, _-_, _*_, _/_, _%_, _<_, _≤_}
-use mathlib.Core.Path.{_≡_, refl, sym, ap, _∙_}
-use mathlib.Core.List.{List, [], _∷_, _++_, append-nil}
+use mathlib.Core.Path.{_≡_, sym, ap, _∙_}
+use mathlib.Core.List.{List, [], _∷_, append-nil}
 use mathlib.Core.Bool.{Bool, true, false, cond}
 use native.Mathlib.Omega.{arith}
 use borrow.Author.Tests.{lt-ltb, le-ltb}
-use lib.Dec.{eqb, ltb}
+use lib.Dec.{eqb}
 use lib.ListN.{length, take, drop, length-append, length-drop}
 use lib.Seq.{length-take-le}
-use Rattle.filter.specs.Sheet.{stepCount, primCount, tokenCount, sectionsOf, stepsPart, primsPart, tokensPart}
+use Rattle.filter.specs.Sheet.{stepCount, primCount, tokenCount, sectionsOf, tokensPart}
 use Rattle.filter.specs.Written.{written}
-use Rattle.filter.specs.declared.sheet.Sections.{Sections}
 use Rattle.filter.specs.declared.sheet.Sections.the-variants.{Found, Wrong}
 use Rattle.filter.proofs.Sheets.{sized}
 use Rattle.tree.specs.Tree.{Tree, flat, leaves, depth, treeOf}
 use Rattle.tree.proofs.Exact.{flat-whole}
-use Rattle.tree.proofs.Prefix.{tree-flat}
 use Rattle.checks.specs.Check.{wholeOf}
 use Rattle.checks.specs.declared.check.Checked.the-variants as checked
 use Rattle.checks.proofs.Bounds.{whole-shape}
-use Rattle.checks.proofs.Wholes.{Right, Sorted, sorted}
+use Rattle.checks.proofs.Wholes.{Sorted}
 use Rattle.nots.specs.Nots.{wantedPart}
 use Rattle.nots.specs.Push.{treeIn, frontOf, newSheet, roomed, pushed, pushOf, sheetAfter}
 use Rattle.nots.specs.Turn.{treeAt, Begins, turnedAt, wantedAt, sizeOf}

@@ -11,27 +11,25 @@ use lib.Seq.{take-take, getD-take, length-take-le, take-at}
 use Rattle.filter.specs.Ast.{linkOf}
 use Rattle.filter.specs.Bytes.{be2}
 use Rattle.filter.specs.First.{first}
-use Rattle.filter.specs.Sheet.{stepCount, primCount, tokenCount, sectionsOf, stepsPart, primsPart, tokensPart}
+use Rattle.filter.specs.Sheet.{stepCount, primCount, sectionsOf, stepsPart, primsPart, tokensPart}
 use Rattle.filter.specs.Written.{Front, written}
 use Rattle.filter.specs.declared.ast.LinkType.{LinkType}
 use Rattle.filter.specs.declared.sheet.Sections.the-variants.{Found}
 use Rattle.filter.proofs.Sheets.{sized}
 use Rattle.filter.proofs.Written.{written-sections, written-steps, written-prims, written-tokens}
-use Rattle.tree.specs.Tree.{Tree, flat, leaves, depth, holds, treeOf}
+use Rattle.tree.specs.Tree.{Tree, flat, leaves, depth, treeOf}
 use Rattle.tree.proofs.Prefix.{tree-flat}
-use Rattle.checks.specs.Check.{farOffset, shiftAt, checkAccesses, checkOf, wholeOf}
+use Rattle.checks.specs.Check.{farOffset, shiftAt, checkAccesses, wholeOf}
 use Rattle.checks.specs.declared.check.Checked.{Checked}
 use Rattle.checks.specs.declared.check.Checked.the-variants as checked
-use Rattle.checks.proofs.Wholes.{Right, Sorted, sorted, sorted-whole, sorted-check, other-tree}
-use Rattle.meaning.specs.Evaluate.{primitiveHolds, expressionHolds, firstRefused, judge, evaluated, evaluateOf}
-use Rattle.meaning.specs.declared.evaluate.Verdict.{Verdict}
+use Rattle.checks.proofs.Wholes.{Sorted, sorted, sorted-whole, sorted-check, other-tree}
+use Rattle.meaning.specs.Evaluate.{primitiveHolds, expressionHolds, judge, evaluated, evaluateOf}
 use Rattle.meaning.specs.declared.evaluate.Verdict.the-variants as verdict
 use Rattle.nots.specs.Nots.{wantedPart, lowNots}
 use Rattle.nots.specs.Push.{treeIn, frontOf, newSheet, roomed, pushed, pushOf, sheetAfter}
-use Rattle.nots.specs.declared.Pushed.{Pushed}
 use Rattle.nots.specs.declared.Pushed.the-variants.{Refused, Length}
 use Rattle.nots.proofs.Trees.{wanted-leaves, wanted-low, wanted-twice, wanted-depth, wanted-holds}
-use Rattle.nots.proofs.Rooms.{written-length, found-counts, one-tree, tree-is, front-is}
+use Rattle.nots.proofs.Rooms.{found-counts, one-tree, tree-is, front-is}
 
 -- A part of a sheet's front is that part of the sheet.
 part-take : (i n k : ℕ) (l : List ℕ) → i + n ≤ k → take n (drop i (take k l)) ≡ take n (drop i l)

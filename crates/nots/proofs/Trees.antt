@@ -1,6 +1,6 @@
 -- Turning a tree: what it keeps, where the Nots stand, and that a second time changes nothing.
-use Prim.Native.Nat.{ℕ, suc, _+_, _*_, _≤_, max}
-use mathlib.Core.Path.{_≡_, refl, ap, _∙_}
+use Prim.Native.Nat.{ℕ, suc, _+_, _*_, _≤_}
+use mathlib.Core.Path.{_≡_, refl, _∙_}
 use mathlib.Core.List.{_++_}
 use mathlib.Core.Bool.{Bool, true, false, not, _&&_, _||_}
 use native.Mathlib.Omega.{arith}

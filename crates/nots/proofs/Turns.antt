@@ -6,18 +6,16 @@ use mathlib.Core.List.{List, [], _∷_, _++_}
 use mathlib.Core.Bool.{Bool, true, false, cond, not}
 use native.Mathlib.Omega.{arith}
 use borrow.Author.Tests.{lt-ltb, le-ltb}
-use lib.Dec.{eqb, ltb}
-use lib.ListN.{length, getD, drop, length-append, length-drop}
+use lib.ListN.{length, getD, length-append, length-drop}
 use Rattle.tree.specs.Tree.{Tree, flat, depth}
 use Rattle.tree.specs.Tree.Tree.{leaf, and, or, inv}
 use Rattle.meaning.proofs.Walks.{at-most-or-above}
 use Rattle.nots.specs.Nots.{wantedPart, deniedPart}
 use Rattle.nots.specs.Turn.{treeAt, Begins, past, wantedAt, deniedAt, turnedAt, otherOf, leafSize, sizeOf}
 use Rattle.nots.specs.Turn.Begins.{begins}
-use Rattle.nots.specs.declared.Size.{Size}
 use Rattle.nots.specs.declared.Size.the-variants.{Fits, TooDeep}
 use Rattle.nots.proofs.Trees.{wanted-size, denied-size}
-use Rattle.nots.proofs.Places.{Part, part, tree-there, in-tokens}
+use Rattle.nots.proofs.Places.{Part, part, tree-there}
 use Rattle.nots.proofs.Places.Part.{lone, under, with-and, with-or}
 
 some-depth : (t : Tree) → 0 < depth t

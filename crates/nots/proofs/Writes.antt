@@ -1,5 +1,5 @@
 -- What the stores of a turned part make of the output.
-use Prim.Native.Nat.{ℕ, suc, _+_, _*_, _/_, _%_, _<_, _≤_}
+use Prim.Native.Nat.{ℕ, suc, _+_, _/_, _%_, _<_, _≤_}
 use mathlib.Core.Path.{_≡_, refl, sym, ap, _∙_}
 use mathlib.Core.List.{List, [], _∷_, _++_}
 use native.Mathlib.Omega.{arith}
@@ -9,7 +9,7 @@ use lib.Seq.{sets, sets-eq, take-suc, length-take-le}
 use Rattle.filter.specs.Written.{written}
 use Rattle.tree.specs.Tree.{Tree, flat}
 use Rattle.tree.specs.Tree.Tree.{leaf, and, or, inv}
-use Rattle.nots.specs.Turn.{treeAt, Begins, past, wantedAt, deniedAt, laid, reachedOf}
+use Rattle.nots.specs.Turn.{past, wantedAt, deniedAt, laid, reachedOf}
 use Rattle.nots.specs.declared.Reached.{Reached}
 use Rattle.nots.proofs.Turns.{Two}
 

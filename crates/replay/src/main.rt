@@ -338,10 +338,14 @@ fn capture_case(file: &mut [u8], sheet: &mut [u8], output: &mut [u8], work: &mut
     Next::More
 }
 
+fn print_byte(byte: u8) {
+    io::print_hex(STDOUT_FILENO, byte as u64, 2);
+}
+
 fn print_bytes(bytes: &[u8]) {
     let mut i = 0;
     while i < bytes.len() {
-        io::print_hex(STDOUT_FILENO, bytes[i] as u64, 2);
+        print_byte(bytes[i]);
         i += 1;
     }
     io::write_all(STDOUT_FILENO, b"\n");

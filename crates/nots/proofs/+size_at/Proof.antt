@@ -1,5 +1,5 @@
 -- One token, by the laws of the part that begins there; the tokens that are left fall with each call.
-use Rattle.nots.proofs.Turns.{lone-at, under-at, two-at, no-levels, size-lone, size-under, size-told, size-bound, deep-first, deep-second, size-two}
+use Rattle.nots.proofs.Turns.{under-at, two-at, no-levels, size-lone, size-under, size-told, size-bound, deep-first, deep-second, size-two}
 use Rattle.nots.proofs.Writes.{past-above}
 use Rattle.nots.proofs.Places.{in-tokens}
 use Rattle.nots.specs.Turn.{Begins}

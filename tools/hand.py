@@ -56,7 +56,7 @@ REFUSALS = {
     6: 'a shift by 32 or more',
     7: 'the output is too short for the program',
     8: 'the work is too short for the program',
-    9: 'the tree is deeper than 256 levels, a limit of the evaluator; the generator has none',
+    9: 'the tree is deeper than 256 levels, a limit of the evaluator and of pushing Nots down; the generator has none',
     10: 'a jump over more than 32767 instructions',
     11: 'an ethertype other than 0x0800 is asked for, and the link has none',
     12: 'ports of a protocol other than tcp, udp and sctp',
@@ -67,6 +67,7 @@ REFUSALS = {
     17: 'a comparison of one load with another',
     18: 'a division by 0',
     19: 'a remainder (%)',
+    50: 'with its Nots pushed down the tree needs more than 65,535 tokens',
 }
 
 

@@ -1,4 +1,4 @@
-/* libbromaveluth.a: a packet-filter generator, an evaluator, an eBPF step machine and a reader of captures, for x86-64 Linux.
+/* libbromaveluth.a: a packet-filter generator, an evaluator, an eBPF step machine, a reader of captures, and Nots pushed down, for x86-64 Linux.
  *
  * `rt staticlib bromaveluth` proves the functions below against their contracts (crates/bromaveluth/src/lib.rt) and writes the archive.
  * A comment here says in words what a contract says in definitions. docs/SHEET.md says how a filter is written as a sheet,
@@ -33,6 +33,7 @@
  *   bromaveluth_compile                1,392         1,392
  *   bromaveluth_evaluate                 848        94,752
  *   bromaveluth_run                      136           136
+ *   bromaveluth_nots                     336        37,192
  *   bromaveluth_capture_open              80            80
  *   bromaveluth_capture                1,760         1,760
  *   bromaveluth_capture_part           1,744         1,744
@@ -68,9 +69,9 @@ enum {
     BROMAVELUTH_OFFSET = 5,          /* a byte access's left offset is negative as given, or above 32767 (Net: plus the header offset);
                                         place: the first such primitive */
     BROMAVELUTH_SHIFT = 6,           /* a shift by 32 or more; place: the first such primitive */
-    BROMAVELUTH_OUTPUT = 7,          /* output below 8 x L bytes */
+    BROMAVELUTH_OUTPUT = 7,          /* output below 8 x L bytes; of bromaveluth_nots: shorter than the new sheet */
     BROMAVELUTH_WORK = 8,            /* work below L + 8 x tokens numbers of 32 bits */
-    BROMAVELUTH_TOO_DEEP = 9,        /* evaluator only: tree deeper than 256, the root counted */
+    BROMAVELUTH_TOO_DEEP = 9,        /* evaluator and bromaveluth_nots only: tree deeper than 256, the root counted */
     BROMAVELUTH_JUMP = 10,           /* jump distance above 32767 */
     BROMAVELUTH_ETHERTYPE = 11,      /* ethertype on RawIp other than 0x0800; place, here and below: the primitive */
     BROMAVELUTH_PORT_PROTOCOL = 12,  /* ports with p not 0, 5, 6 or 10 */
@@ -85,7 +86,8 @@ enum {
     BROMAVELUTH_MAGIC = 40,          /* unknown magic; place: 0 */
     BROMAVELUTH_LINK_TYPE = 41,      /* other link type than 1 (Ethernet) and 101 (raw IP), one 32-bit number; place: 20, its first byte */
     BROMAVELUTH_FILE_ENDS = 42,      /* file ends inside a header or record, a file below four bytes too; place: where that begins */
-    BROMAVELUTH_CAPTURED_LENGTH = 43 /* captured length above 16,384, before the record's body; place: where the record begins */
+    BROMAVELUTH_CAPTURED_LENGTH = 43, /* captured length above 16,384, before the record's body; place: where the record begins */
+    BROMAVELUTH_TOKENS = 50          /* bromaveluth_nots only, between 9 and 7: the new tree needs more than 65,535 tokens */
 };
 
 /* Stops of the machine. */
@@ -110,9 +112,9 @@ static inline const char *bromaveluth_refusal_text(uint8_t refusal)
     case BROMAVELUTH_NOT_ONE_TREE: return "tokens are not one whole tree, or primitives or steps are left over or lacking";
     case BROMAVELUTH_OFFSET: return "a byte access's left offset is negative as given, or above 32767 (Net: plus the header offset)";
     case BROMAVELUTH_SHIFT: return "a shift by 32 or more";
-    case BROMAVELUTH_OUTPUT: return "output below 8 x L bytes";
+    case BROMAVELUTH_OUTPUT: return "output below 8 x L bytes, or shorter than the new sheet";
     case BROMAVELUTH_WORK: return "work below L + 8 x tokens numbers of 32 bits";
-    case BROMAVELUTH_TOO_DEEP: return "evaluator only: tree deeper than 256, the root counted";
+    case BROMAVELUTH_TOO_DEEP: return "tree deeper than 256, the root counted";
     case BROMAVELUTH_JUMP: return "jump distance above 32767";
     case BROMAVELUTH_ETHERTYPE: return "ethertype on RawIp other than 0x0800";
     case BROMAVELUTH_PORT_PROTOCOL: return "ports with p not 0, 5, 6 or 10";
@@ -127,6 +129,7 @@ static inline const char *bromaveluth_refusal_text(uint8_t refusal)
     case BROMAVELUTH_LINK_TYPE: return "other link type";
     case BROMAVELUTH_FILE_ENDS: return "file ends inside a header or record";
     case BROMAVELUTH_CAPTURED_LENGTH: return "captured length above 16,384";
+    case BROMAVELUTH_TOKENS: return "the new tree needs more than 65,535 tokens";
     default: return "unknown refusal";
     }
 }
@@ -173,6 +176,13 @@ uint8_t bromaveluth_evaluate(const uint8_t *sheet, size_t sheet_bytes, uint8_t l
  * any other, *steps the number of steps carried out, an exit counted. Nothing else is written. */
 uint8_t bromaveluth_run(const uint8_t *program, size_t program_bytes, const uint8_t *frame, size_t frame_bytes, uint64_t start,
                         uint64_t budget, uint64_t *r0, uint64_t *steps);
+
+/* Pushes the Nots of a sheet down: writes a new sheet with the same steps and primitives in the same order, in which Not stands only directly
+ * above a primitive and never twice. Returns 0 and the new sheet's length in *answer; the first so many bytes of output are then the new
+ * sheet. Else a refusal (2 to 4, 9, 50, 7, looked for in this order), its place in *answer (0 but for 3), and output as it was. Nothing else
+ * is written. No link is taken; on every link and frame the new sheet is evaluated as the old one is, and its tree is never deeper.
+ * Of a sheet of N bytes the new one has at most N + 21,844. */
+uint8_t bromaveluth_nots(const uint8_t *sheet, size_t sheet_bytes, uint8_t *output, size_t output_bytes, uint64_t *answer);
 
 /* A capture below is a whole libpcap savefile in memory: a header of 24 bytes (magic a1b2c3d4, or a1b23c4d for nanoseconds, in either byte
  * order; the link type in its last four), then records, each a header of 16 bytes and the captured bytes. A record is cut when its

@@ -141,7 +141,7 @@ static int told(const char *(*text)(uint8_t), const char *other)
 
 static void texts(void)
 {
-    SAME(told(bromaveluth_refusal_text, "unknown refusal"), 1 + 19 + 4);
+    SAME(told(bromaveluth_refusal_text, "unknown refusal"), 1 + 19 + 4 + 1);
     SAME(told(bromaveluth_stop_text, "unknown stop"), 7);
     SAME(strcmp(bromaveluth_refusal_text(BROMAVELUTH_JUMP), "jump distance above 32767"), 0);
     SAME(strcmp(bromaveluth_refusal_text(0), "no refusal"), 0);
@@ -288,6 +288,7 @@ int main(void)
     evaluates();
     runs();
     captures();
+    nots();
     printf("C: %d checks, %d wrong\n", checks, wrong);
     return wrong != 0;
 }

@@ -1,4 +1,4 @@
-/* What the calls of calls.c and captures.c are compared with, and by what. */
+/* What the calls of calls.c, captures.c and nots.c are compared with, and by what. */
 #ifndef CHECKS_H
 #define CHECKS_H
 
@@ -32,5 +32,7 @@ extern const uint8_t ip_frame[60], arp_frame[60];
 
 /* Captures: captures.c. */
 void captures(void);
+/* Nots pushed down: nots.c. */
+void nots(void);
 
 #endif

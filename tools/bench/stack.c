@@ -47,7 +47,7 @@ static uint64_t budget, most, a, b, c, answer;
 
 /* A function that returns at once, under the type of each that is measured. */
 __asm__(".text\nstack_nothing:\n\tret\n");
-#define EACH(X) X(version) X(measure) X(compile) X(evaluate) X(run) X(capture_open) X(capture) X(capture_part)
+#define EACH(X) X(version) X(measure) X(compile) X(evaluate) X(run) X(nots) X(capture_open) X(capture) X(capture_part)
 #define DECLARE(name) \
     extern __typeof__(bromaveluth_##name) nothing_##name __asm__("stack_nothing"); \
     static __typeof__(bromaveluth_##name) *volatile name = nothing_##name;
@@ -58,6 +58,7 @@ static void call_measure(void) { measure(sheet, sheet_bytes, link, mode, &a, &b,
 static void call_compile(void) { compile(sheet, sheet_bytes, link, mode, output, output_bytes, work, work_numbers, &answer); }
 static void call_evaluate(void) { evaluate(sheet, sheet_bytes, link, frame, frame_bytes, &answer); }
 static void call_run(void) { run(output, program_bytes, frame, frame_bytes, 0, budget, &a, &b); }
+static void call_nots(void) { nots(sheet, sheet_bytes, output, output_bytes, &answer); }
 static void call_capture_open(void) { capture_open(file, file_bytes, &answer); }
 static void call_capture(void)
 {
@@ -121,6 +122,7 @@ static void filter(int frames)
         output_bytes = room > 0 ? ROOM : 0;
         work_numbers = room > 1 ? ROOM : 0;
         take(F_compile);
+        take(F_nots);
     }
     if (bromaveluth_compile(sheet, sheet_bytes, link, mode, output, output_bytes, work, work_numbers, &answer) == 0) {
         program_bytes = 8 * answer;

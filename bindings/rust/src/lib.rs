@@ -1,5 +1,5 @@
 //! Safe functions over `libbromaveluth.a`: [`measure`] a filter's sheet, [`compile`] it, [`evaluate`] it on a frame, [`run`] its program,
-//! count what it passes of a [`mod@capture`].
+//! push its Nots down ([`nots`]), count what it passes of a [`mod@capture`].
 //!
 //! `rt staticlib bromaveluth` proves the archive's functions against their contracts and writes it; it links into x86-64 Linux programs.
 //! The functions take any bytes and any lengths; they panic only at an answer that the archive's contracts rule out, as of another
@@ -85,6 +85,7 @@ extern "C" {
         r0: *mut u64,
         steps: *mut u64,
     ) -> u8;
+    fn bromaveluth_nots(sheet: *const u8, sheet_bytes: usize, output: *mut u8, output_bytes: usize, answer: *mut u64) -> u8;
 }
 
 /// The archive's version: 1,000,000 x major + 1,000 x minor + patch. It should be this crate's.
@@ -164,6 +165,29 @@ pub fn evaluate(sheet: &[u8], link: Link, frame: &[u8]) -> Result<bool, Refused>
         0 => Ok(answer == 1),
         number => Err(Refused::told(number, answer)),
     }
+}
+
+/// Writes a sheet with its Nots pushed down and gives the new sheet's length: the same steps and primitives in the same order, Not only
+/// directly above a primitive and never twice. On every link and frame it is evaluated as the old one is.
+///
+/// Accepted, the first bytes of `output` are the new sheet; after a refusal (2 to 4, 9, 50, 7) `output` is as it was. Nothing else changes.
+pub fn nots(sheet: &[u8], output: &mut [u8]) -> Result<usize, Refused> {
+    let mut answer = 0;
+    // SAFETY: as in `compile`.
+    let status = unsafe { bromaveluth_nots(sheet.as_ptr(), sheet.len(), output.as_mut_ptr(), output.len(), &mut answer) };
+    match status {
+        0 => Ok(answer as usize),
+        number => Err(Refused::told(number, answer)),
+    }
+}
+
+/// The sheet with its Nots pushed down, in a buffer of its own: as [`nots`], but never refused 7, as a new tree of at most 65,535 tokens has
+/// at most so many more than the old one.
+pub fn nots_pushed(sheet: &[u8]) -> Result<Vec<u8>, Refused> {
+    let mut output = vec![0; sheet.len() + 65535];
+    let length = nots(sheet, &mut output)?;
+    output.truncate(length);
+    Ok(output)
 }
 
 /// Runs a program's bytes on a frame that lies at `start`, for at most `budget` steps.

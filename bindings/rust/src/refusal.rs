@@ -2,7 +2,8 @@
 
 use std::fmt;
 
-/// Why a sheet or a capture was refused: a sheet's in the order in which they are looked for; a capture's, 40 to 43, come before them.
+/// Why a sheet or a capture was refused: a sheet's in the order in which they are looked for; a capture's, 40 to 43, come
+/// before them; 50 is of [`crate::nots`] alone, between 9 and 7.
 #[derive(Clone, Copy, Debug, PartialEq, Eq, Hash)]
 #[repr(u8)]
 pub enum Refusal {
@@ -19,11 +20,11 @@ pub enum Refusal {
     Offset = 5,
     /// 6: a shift by 32 or more. The place is the first such primitive.
     Shift = 6,
-    /// 7: output below 8 x L bytes.
+    /// 7: output below 8 x L bytes; of [`crate::nots`], shorter than the new sheet.
     Output = 7,
     /// 8: work below L + 8 x tokens numbers of 32 bits.
     Work = 8,
-    /// 9: evaluator only: tree deeper than 256, the root counted.
+    /// 9: evaluator and [`crate::nots`] only: tree deeper than 256, the root counted.
     TooDeep = 9,
     /// 10: jump distance above 32767.
     Jump = 10,
@@ -54,19 +55,21 @@ pub enum Refusal {
     FileEnds = 42,
     /// 43: captured length above 16,384, before the record's body. The place is the record's first byte.
     CapturedLength = 43,
+    /// 50: the new tree needs more than 65,535 tokens.
+    Tokens = 50,
 }
 
 /// Every refusal with its words.
-const TEXTS: [(Refusal, &str); 23] = [
+const TEXTS: [(Refusal, &str); 24] = [
     (Refusal::LinkOrMode, "link or mode above 1"),
     (Refusal::Length, "sheet length differs from what its counts ask, or a count is cut"),
     (Refusal::WrongByte, "a code or unused byte is wrong"),
     (Refusal::NotOneTree, "tokens are not one whole tree, or primitives or steps are left over or lacking"),
     (Refusal::Offset, "a byte access's left offset is negative as given, or above 32767 (Net: plus the header offset)"),
     (Refusal::Shift, "a shift by 32 or more"),
-    (Refusal::Output, "output below 8 x L bytes"),
+    (Refusal::Output, "output below 8 x L bytes, or shorter than the new sheet"),
     (Refusal::Work, "work below L + 8 x tokens numbers of 32 bits"),
-    (Refusal::TooDeep, "evaluator only: tree deeper than 256, the root counted"),
+    (Refusal::TooDeep, "tree deeper than 256, the root counted"),
     (Refusal::Jump, "jump distance above 32767"),
     (Refusal::Ethertype, "ethertype on RawIp other than 0x0800"),
     (Refusal::PortProtocol, "ports with p not 0, 5, 6 or 10"),
@@ -81,10 +84,11 @@ const TEXTS: [(Refusal, &str); 23] = [
     (Refusal::LinkType, "other link type"),
     (Refusal::FileEnds, "file ends inside a header or record"),
     (Refusal::CapturedLength, "captured length above 16,384"),
+    (Refusal::Tokens, "the new tree needs more than 65,535 tokens"),
 ];
 
 impl Refusal {
-    /// Its number, 1 to 19 or 40 to 43.
+    /// Its number: 1 to 19, 40 to 43 or 50.
     pub fn number(self) -> u8 {
         self as u8
     }
@@ -101,7 +105,7 @@ impl Refusal {
 
     /// Whether the capture itself is refused (40 to 43), not the sheet.
     pub fn is_of_file(self) -> bool {
-        self.number() >= 40
+        matches!(self.number(), 40..=43)
     }
 }
 

@@ -24,6 +24,11 @@ bromaveluth-run =
     unique (beside _ (beside _ (plain _)))
     (λ κs a r r′ ws ws′ p q. (p .0 ∙ sym (q .0), λ i. (tt, (tt, (tt, (tt, ((p .1 .0 ∙ sym (q .1 .0)) i, ((p .1 .1 ∙ sym (q .1 .1)) i, tt))))))))
 
+pub bromaveluth-nots : Unique crate.bromaveluth_nots.ended (λ M 𝓤. crate.bromaveluth_nots.clauses 𝓤)
+bromaveluth-nots =
+    unique (beside _ (beside _ (plain _)))
+    (λ κs a r r′ ws ws′ p q. (p .0 ∙ sym (q .0), λ i. (tt, ((p .1 .1 ∙ sym (q .1 .1)) i, ((p .1 .0 ∙ sym (q .1 .0)) i, tt)))))
+
 pub bromaveluth-capture-open : Unique crate.bromaveluth_capture_open.ended (λ M 𝓤. crate.bromaveluth_capture_open.clauses 𝓤)
 bromaveluth-capture-open = unique (beside _ (plain _)) (λ κs a r r′ ws ws′ p q. (p .0 ∙ sym (q .0), λ i. (tt, ((p .1 ∙ sym (q .1)) i, tt))))
 

@@ -12,6 +12,8 @@ use Rattle.capture.specs.declared.Captured.{Captured}
 use Rattle.capture.specs.declared.Captured.the-variants as captured
 use Rattle.meaning.specs.declared.evaluate.Verdict.{Verdict}
 use Rattle.meaning.specs.declared.evaluate.Verdict.the-variants as verdict
+use Rattle.nots.specs.declared.Pushed.{Pushed}
+use Rattle.nots.specs.declared.Pushed.the-variants as nots
 use Rattle.savefile.specs.declared.Opened.{Opened}
 use Rattle.savefile.specs.declared.Opened.the-variants as opened
 
@@ -32,6 +34,15 @@ verdictStatus (verdict.Judged holds) = 0
 unfoldable pub verdictNumber : Verdict → ℕ
 verdictNumber (verdict.Refused number place) = place
 verdictNumber (verdict.Judged holds) = cond holds 1 0
+
+unfoldable pub pushedStatus : Pushed → ℕ
+pushedStatus (nots.Refused number place) = number
+pushedStatus (nots.Length bytes) = 0
+
+-- The refusal's place, or the new sheet's length.
+unfoldable pub pushedNumber : Pushed → ℕ
+pushedNumber (nots.Refused number place) = place
+pushedNumber (nots.Length bytes) = bytes
 
 unfoldable pub openedStatus : Opened → ℕ
 openedStatus (opened.Refused number place) = number

@@ -1,5 +1,5 @@
-// The library that C and Rust programs link: measure, compile, evaluate, run and count a capture over slices and numbers. Each returns a plain status number and
-// writes the numbers beside it through references; bindings/c/bromaveluth.h declares the same functions in C.
+// The library that C and Rust programs link: measure, compile, evaluate, run, push the Nots down and count a capture over slices and numbers. Each returns a plain
+// status number and writes the numbers beside it through references; bindings/c/bromaveluth.h declares the same functions in C.
 use capture::Captured;
 use capture::capture;
 use capture::capture_part;
@@ -10,6 +10,8 @@ use generator::Compiled;
 use generator::compile;
 use meaning::evaluate::Verdict;
 use meaning::evaluate::evaluate;
+use nots::Pushed;
+use nots::push_nots;
 use savefile::Opened;
 use savefile::open_file;
 ghost use mathlib.Core.Path.{_≡_};
@@ -17,9 +19,11 @@ ghost use lib.ListN.{length};
 ghost use Rattle.ebpf.specs.Run.{runOf};
 ghost use Rattle.meaning.specs.Evaluate.{evaluateOf};
 ghost use Rattle.generator.specs.Compile.{outcomeOf, answerOf, outputAfter, workAfter};
+ghost use Rattle.nots.specs.Push.{newSheet, pushOf, sheetAfter};
 ghost use Rattle.savefile.specs.Savefile.{headerOf, openedOf};
 ghost use Rattle.capture.specs.Capture.{partOf, capturedOf, outputIn, workIn};
 ghost use Rattle.bromaveluth.specs.Boundary.{compiledStatus, compiledNumber, verdictStatus, verdictNumber, openedStatus, openedNumber};
+ghost use Rattle.bromaveluth.specs.Boundary.{pushedStatus, pushedNumber};
 ghost use Rattle.bromaveluth.specs.Boundary.{capturedStatus, passedCount, droppedCount, cutCount, capturedNumber};
 ghost use Rattle.bromaveluth.specs.Boundary.{askedOf, askedStatus, askedTokens, askedOutput, askedWork, askedNumber, version};
 
@@ -151,6 +155,25 @@ pub extern "C" fn bromaveluth_run(
     *r0 = end.r0;
     *steps = end.steps;
     end.stop
+}
+
+// 0 and in `answer` the new sheet's length in bytes, or the refusal and its place there.
+#[no_mangle]
+pub extern "C" fn bromaveluth_nots(sheet: &[u8], output: &mut [u8], answer: &mut u64) -> u8
+    ensures { λ r. ⌜ r ≡ pushedStatus (pushOf (now (sheet .entry)) (length (now (output .entry)))) ⌝ }
+    ensures { λ r. ⌜ now (answer .exit) ≡ pushedNumber (pushOf (now (sheet .entry)) (length (now (output .entry)))) ⌝ }
+    ensures { λ r. ⌜ now (output .exit) ≡ sheetAfter (pushOf (now (sheet .entry)) (length (now (output .entry)))) (newSheet (now (sheet .entry))) (now (output .entry)) ⌝ }
+{
+    match push_nots(sheet, output) {
+        Pushed::Refused { number, place } => {
+            *answer = place as u64;
+            number
+        }
+        Pushed::Length { bytes } => {
+            *answer = bytes as u64;
+            0
+        }
+    }
 }
 
 // 0 and in `answer` the link that the savefile picks; or 40 to 43, and there the byte where what is refused begins.

@@ -270,7 +270,7 @@ unfolding oneTree
 whole-shape (Whole n) b e = ap Whole (eqb-true n b e)
 whole-shape Broken b e = let never : _≡_ {A = ℕ} 0 1 = cc in absurd (omega arith)
 
-first-true : (x y : Bool) → x && y ≡ true → x ≡ true
+pub first-true : (x y : Bool) → x && y ≡ true → x ≡ true
 first-true true y e = refl
 first-true false y e = e
 

@@ -5,4 +5,5 @@ pub mod Examples
 pub mod Lengths
 pub mod Places
 pub mod Refusals
+pub mod Wholes
 pub mod Unique

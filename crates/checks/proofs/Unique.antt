@@ -30,6 +30,9 @@ first-shift = by-result _ (λ κs a ws ws′. refl)
 pub check-parts : Unique crate.check.check_parts.ended (λ M 𝓤. crate.check.check_parts.clauses 𝓤)
 check-parts = by-result _ (λ κs a ws ws′. refl)
 
+pub check-whole : Unique crate.check.check_whole.ended (λ M 𝓤. crate.check.check_whole.clauses 𝓤)
+check-whole = by-result _ (λ κs a ws ws′. refl)
+
 pub check-sheet : Unique crate.check.check_sheet.ended (λ M 𝓤. crate.check.check_sheet.clauses 𝓤)
 check-sheet = by-result _ (λ κs a ws ws′. refl)
 

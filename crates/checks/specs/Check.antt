@@ -99,17 +99,29 @@ checkAccesses link steps prims a b c =
     let y = first (shiftAt steps prims) b 0 in
     cond (ltb x b) (Refused 5 x) (cond (ltb y b) (Refused 6 y) (Good a b c))
 
--- refusals 3 to 6
-unfoldable pub checkParts : LinkType → List ℕ → List ℕ → List ℕ → ℕ → ℕ → ℕ → Checked
-checkParts link steps prims tokens a b c =
+-- refusals 3 and 4, and what is found further on where there is neither
+abbrev pub wholeParts : List ℕ → List ℕ → List ℕ → ℕ → ℕ → ℕ → Checked → Checked
+wholeParts steps prims tokens a b c further =
     let x = lowestWrong steps prims tokens a b c in
     cond (ltb x (5 * a + 24 * b + c + 6)) (Refused 3 x)
-    (cond (complete prims tokens a b) (checkAccesses link steps prims a b c) (Refused 4 0))
+    (cond (complete prims tokens a b) further (Refused 4 0))
+
+-- refusals 3 to 6
+unfoldable pub checkParts : LinkType → List ℕ → List ℕ → List ℕ → ℕ → ℕ → ℕ → Checked
+checkParts link steps prims tokens a b c = wholeParts steps prims tokens a b c (checkAccesses link steps prims a b c)
 
 -- Refusal 2: "sheet length differs from what its counts ask, or a count is cut"; else its three parts
 unfoldable pub checkSections : LinkType → List ℕ → Sections → Checked
 checkSections link s (Found a b c) = checkParts link (stepsPart s a) (primsPart s a b) (tokensPart s a b c) a b c
 checkSections link s Wrong = Refused 2 0
+
+-- refusals 2 to 4, for which no link is asked
+unfoldable pub wholeSections : List ℕ → Sections → Checked
+wholeSections s (Found a b c) = wholeParts (stepsPart s a) (primsPart s a b) (tokensPart s a b c) a b c (Good a b c)
+wholeSections s Wrong = Refused 2 0
+
+unfoldable pub wholeOf : List ℕ → Checked
+wholeOf s = wholeSections s (sectionsOf s)
 
 -- Refusal 1: "link .. above 1"
 unfoldable pub checkOf : List ℕ → ℕ → Checked

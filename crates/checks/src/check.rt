@@ -22,7 +22,8 @@ ghost use lib.ListN.{length};
 ghost use Rattle.filter.specs.First.{first, any};
 ghost use Rattle.filter.specs.Sheet.{sectionsOf};
 ghost use Rattle.tree.specs.Shape.{shapeOf};
-ghost use Rattle.checks.specs.Check.{takes, stepsBefore, oneTree, complete, baseOf, far, farOffset, shifts, bigShift, shiftAt, lowestWrong, checkAccesses, checkParts, checkSections, checkOf, checkModeOf};
+ghost use Rattle.checks.specs.Check.{takes, stepsBefore, oneTree, complete, baseOf, far, farOffset, shifts, bigShift, shiftAt, lowestWrong, checkAccesses, checkParts, checkSections, wholeParts, wholeOf, checkOf, checkModeOf};
+ghost use Rattle.checks.specs.declared.check.Checked.the-variants.{Good};
 
 pub enum Checked {
     Refused { number: u8, place: u32 },
@@ -221,7 +222,32 @@ fn check_accesses(link: LinkType, steps: &[u8], prims: &[u8], a: u16, b: u16, c:
     }
 }
 
-// Refusals 3 to 6, of a steps, b primitives and c tokens.
+// Refusals 3 and 4, of a steps, b primitives and c tokens.
+fn check_shape(steps: &[u8], prims: &[u8], tokens: &[u8], a: u16, b: u16, c: u16) -> Checked
+    ensures { λ r. ⌜ r ≡ wholeParts (now (steps .entry)) (now (prims .entry)) (now (tokens .entry)) a b c (Good a b c) ⌝ }
+{
+    let x = lowest_wrong(steps, prims, tokens, a, b, c);
+    if x < 5 * (a as u32) + 24 * (b as u32) + (c as u32) + 6 {
+        return Checked::Refused {
+            number: 3,
+            place: x,
+        };
+    }
+    if is_complete(prims, tokens, a, b) {
+        Checked::Good {
+            steps: a,
+            prims: b,
+            tokens: c,
+        }
+    } else {
+        Checked::Refused {
+            number: 4,
+            place: 0,
+        }
+    }
+}
+
+// Refusals 3 to 6.
 pub fn check_parts(
     link: LinkType,
     steps: &[u8],
@@ -233,20 +259,13 @@ pub fn check_parts(
 ) -> Checked
     ensures { λ r. ⌜ r ≡ checkParts link (now (steps .entry)) (now (prims .entry)) (now (tokens .entry)) a b c ⌝ }
 {
-    let x = lowest_wrong(steps, prims, tokens, a, b, c);
-    if x < 5 * (a as u32) + 24 * (b as u32) + (c as u32) + 6 {
-        return Checked::Refused {
-            number: 3,
-            place: x,
-        };
-    }
-    if is_complete(prims, tokens, a, b) {
-        check_accesses(link, steps, prims, a, b, c)
-    } else {
-        Checked::Refused {
-            number: 4,
-            place: 0,
-        }
+    match check_shape(steps, prims, tokens, a, b, c) {
+        Checked::Refused { number, place } => Checked::Refused { number, place },
+        Checked::Good {
+            steps: _,
+            prims: _,
+            tokens: _,
+        } => check_accesses(link, steps, prims, a, b, c),
     }
 }
 
@@ -274,6 +293,40 @@ fn check_sections(link: LinkType, sheet: &[u8]) -> Checked
             let c = z + 6;
             check_parts(
                 link,
+                &sheet[2..a],
+                &sheet[p..b],
+                &sheet[t..c],
+                steps,
+                prims,
+                tokens,
+            )
+        }
+    }
+}
+
+// Refusals 2 to 4, for which no link is asked.
+pub fn check_whole(sheet: &[u8]) -> Checked
+    ensures { λ r. ⌜ r ≡ wholeOf (now (sheet .entry)) ⌝ }
+{
+    match find_sections(sheet) {
+        Sections::Wrong => Checked::Refused {
+            number: 2,
+            place: 0,
+        },
+        Sections::Found {
+            steps,
+            prims,
+            tokens,
+        } => {
+            let x = 5 * (steps as usize);
+            let y = x + 24 * (prims as usize);
+            let z = y + (tokens as usize);
+            let a = x + 2;
+            let p = x + 4;
+            let b = y + 4;
+            let t = y + 6;
+            let c = z + 6;
+            check_shape(
                 &sheet[2..a],
                 &sheet[p..b],
                 &sheet[t..c],

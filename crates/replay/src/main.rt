@@ -9,6 +9,8 @@
 //     these sizes; output to 1 MiB, work to 1 Mi numbers.
 //   P mode(1) at(8) most(8) sheet-length(4) sheet file-length(4) file: the refusal and its place, or 0, the frames passed, dropped and cut, and
 //     where to go on; of a whole savefile if `at` is 0, else of at most `most` records from byte `at` on.
+//   N output-bytes(4) sheet-length(4) sheet: the refusal and its place, or 0, the length of the sheet with the Nots pushed down, and its bytes
+//     in hex; output to 1 MiB.
 // A case that is cut, has another tag or is longer than its buffers ends the run with a line that says which case it is.
 use capture::Captured;
 use capture::capture;
@@ -23,6 +25,8 @@ use libc::STDIN_FILENO;
 use libc::STDOUT_FILENO;
 use meaning::evaluate::Verdict;
 use meaning::evaluate::evaluate;
+use nots::Pushed;
+use nots::push_nots;
 use report::list;
 use report::report;
 ghost use Prim.Native.Nat.{_<_, _^_};
@@ -334,6 +338,48 @@ fn capture_case(file: &mut [u8], sheet: &mut [u8], output: &mut [u8], work: &mut
     Next::More
 }
 
+fn print_byte(byte: u8) {
+    io::print_hex(STDOUT_FILENO, byte as u64, 2);
+}
+
+fn print_bytes(bytes: &[u8]) {
+    let mut i = 0;
+    while i < bytes.len() {
+        print_byte(bytes[i]);
+        i += 1;
+    }
+    io::write_all(STDOUT_FILENO, b"\n");
+}
+
+fn run_nots(sheet: &[u8], output: &mut [u8]) {
+    match push_nots(sheet, output) {
+        Pushed::Refused { number, place } => print_refusal(number, place),
+        Pushed::Length { bytes } => {
+            let n = bytes as usize;
+            io::write_all(STDOUT_FILENO, b"0 ");
+            print_number(bytes as u64, b" ");
+            if n <= output.len() {
+                print_bytes(&output[..n]);
+            }
+        }
+    }
+}
+
+fn nots_case(sheet: &mut [u8], output: &mut [u8]) -> Next {
+    let Number::Value(o) = read4() else {
+        return Next::Broken;
+    };
+    let Part::Bytes(n) = read_part(sheet) else {
+        return Next::Broken;
+    };
+    let bytes = o as usize;
+    if output.len() < bytes {
+        return Next::Broken;
+    }
+    run_nots(&sheet[..n], &mut output[..bytes]);
+    Next::More
+}
+
 fn next_case(bytes: &mut [u8], frame: &mut [u8], output: &mut [u8], work: &mut [u32]) -> Next {
     let mut tag = [0u8; 1];
     if io::read_full(STDIN_FILENO, &mut tag) < 1 {
@@ -348,6 +394,7 @@ fn next_case(bytes: &mut [u8], frame: &mut [u8], output: &mut [u8], work: &mut [
         b'C' => compile_case(bytes, output, work),
         b'L' => listing_case(bytes, output, work),
         b'P' => capture_case(bytes, frame, output, work),
+        b'N' => nots_case(bytes, output),
         _ => Next::Broken,
     }
 }
@@ -378,7 +425,7 @@ fn replay(bytes: &mut [u8], frame: &mut [u8], output: &mut [u8], work: &mut [u32
 }
 
 fn main() {
-    let mut bytes = [0u8; 524288];
+    let mut bytes = [0u8; 589824];
     let mut frame = [0u8; 65536];
     let mut output = [0u8; 1048576];
     let mut work = [0u32; 1048576];

@@ -7,7 +7,7 @@ use Rattle.replay.proofs.main.Statement.{statement}
 use Rattle.replay.proofs.main.Tie as tie
 
 slice-aggregate-replay : tie.Need-slice-aggregate-replay
-slice-aggregate-replay c = sym (length-replicate {A = ℕ} 524288 0)
+slice-aggregate-replay c = sym (length-replicate {A = ℕ} 589824 0)
 
 slice-aggregate-replay-2 : tie.Need-slice-aggregate-replay-2
 slice-aggregate-replay-2 c = sym (length-replicate {A = ℕ} 65536 0)

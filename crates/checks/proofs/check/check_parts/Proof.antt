@@ -1,57 +1,41 @@
-use borrow.Author.Tests.{lt-ltb, le-ltb}
+-- Refusals 3 and 4 stop it; else what is found further on decides.
 use Rattle.checks.specs.Check.{checkParts}
+use Rattle.checks.proofs.Wholes.{good-shape, goes-on, stops-here}
+use denote.Ref.{now}
+use mathlib.Core.Path.{sym, _∙_}
 use borrow.Author.Needs.{needs}
 use Rattle.checks.proofs.check.check_parts.Statement.{statement}
 use Rattle.checks.proofs.check.check_parts.Tie as tie
 
-lowest-wrong-requires : tie.Need-lowest-wrong-requires
-lowest-wrong-requires c κs = search needs
+check-shape-requires : tie.Need-check-shape-requires
+check-shape-requires c κs = search needs
 
-mul-if1 : tie.Need-mul-if1
-mul-if1 c = search needs
+enum-known-number : tie.Need-enum-known-number
+enum-known-number c = search needs
 
-mul-if1-2 : tie.Need-mul-if1-2
-mul-if1-2 c = search needs
-
-add-if1 : tie.Need-add-if1
-add-if1 c = search needs
-
-add-if1-2 : tie.Need-add-if1-2
-add-if1-2 c = search needs
-
-add-if1-3 : tie.Need-add-if1-3
-add-if1-3 c = search needs
-
-returns : tie.Need-returns
-unfolding checkParts
-returns c = rw (← c .before .lowest-wrong .ensures, lt-ltb _ _ (c .if1 .taken))
-
-is-complete-requires : tie.Need-is-complete-requires
-is-complete-requires c κs = search needs
+enum-told : tie.Need-enum-told
+enum-told c = search needs
 
 check-accesses-requires : tie.Need-check-accesses-requires
 check-accesses-requires c κs = search needs
 
+returns : tie.Need-returns
+unfolding checkParts
+returns c = stops-here _ _ _ _ _ _ _ (sym (c .before .before .before .check-shape .ensures) ∙ c .before .number .given .1)
+
 returns-2 : tie.Need-returns-2
 unfolding checkParts
-returns-2 c = rw (← c .before .before .before .before .lowest-wrong .ensures, le-ltb _ _ (c .before .before .before .if1 .left), ← c .before .before .is-complete .ensures, c .before .if2 .taken, c .check-accesses .ensures)
-
-returns-3 : tie.Need-returns-3
-unfolding checkParts
-returns-3 c = rw (← c .before .before .before .lowest-wrong .ensures, le-ltb _ _ (c .before .before .if1 .left), ← c .before .is-complete .ensures, c .if2 .left)
+returns-2 c = let a = c .before .before .before .before .before .before .before .args in
+    let whole = good-shape (now (a .steps)) (now (a .prims)) (now (a .tokens)) (a .a) (a .b) (a .c) (sym (c .before .before .before .check-shape .ensures) ∙ c .before .enum-told .given .1) in
+    c .check-accesses .ensures ∙ sym (goes-on (now (a .steps)) (now (a .prims)) (now (a .tokens)) (a .a) (a .b) (a .c) (whole .0) _)
 
 pub check-parts-spec : {M : Type 1} → statement M
 check-parts-spec =
     tie.close
     (tie.spec
-    lowest-wrong-requires
-    mul-if1
-    mul-if1-2
-    add-if1
-    add-if1-2
-    add-if1-3
-    returns
-    is-complete-requires
+    check-shape-requires
+    enum-known-number
+    enum-told
     check-accesses-requires
-    returns-2
-    returns-3)
+    returns
+    returns-2)

@@ -1,0 +1,3 @@
+pub mod Nots
+pub mod Push
+pub mod Turn

@@ -26,12 +26,12 @@ extern "C" {
 #endif
 
 /* Links and modes; any other number is refused (1). */
-enum { BROMAVELUTH_ETHERNET = 0, BROMAVELUTH_RAW_IP = 1 };
+enum { BROMAVELUTH_ETHERNET = 0, BROMAVELUTH_RAW_IP = 1, BROMAVELUTH_LINUX_SLL = 2 /* Linux's cooked header */ };
 enum { BROMAVELUTH_PLAIN = 0, BROMAVELUTH_MENDED = 1 };
 
 /* Refusals, in the order in which they are looked for; the place is 0 where none is named. */
 enum {
-    BROMAVELUTH_LINK_OR_MODE = 1,    /* link or mode above 1 */
+    BROMAVELUTH_LINK_OR_MODE = 1,    /* link above 2 or mode above 1 */
     BROMAVELUTH_LENGTH = 2,          /* sheet length differs from what its counts ask, or a count is cut */
     BROMAVELUTH_WRONG_BYTE = 3,      /* a code or unused byte is wrong; place: the lowest wrong byte */
     BROMAVELUTH_NOT_ONE_TREE = 4,    /* tokens are not one whole tree, or primitives or steps are left over or lacking */
@@ -44,8 +44,8 @@ enum {
     BROMAVELUTH_JUMP = 10,           /* jump distance above 32767 */
     BROMAVELUTH_ETHERTYPE = 11,      /* ethertype on RawIp other than 0x0800; place, here and below: the primitive */
     BROMAVELUTH_PORT_PROTOCOL = 12,  /* ports with p not 0, 5, 6 or 10 */
-    BROMAVELUTH_ETHER_HOST = 13,     /* EtherHost on RawIp */
-    BROMAVELUTH_ETHER_MULTICAST = 14, /* EtherMulticast on RawIp */
+    BROMAVELUTH_ETHER_HOST = 13,     /* EtherHost on RawIp or Linux cooked */
+    BROMAVELUTH_ETHER_MULTICAST = 14, /* EtherMulticast on RawIp or Linux cooked */
     BROMAVELUTH_MPLS = 15,           /* Mpls on RawIp */
     BROMAVELUTH_DIRECTION = 16,      /* Inbound, Outbound */
     BROMAVELUTH_LOAD = 17,           /* comparison with a load */
@@ -53,7 +53,7 @@ enum {
     BROMAVELUTH_MODULO = 19,         /* first bad step: Mod */
     /* Of a capture, looked for in file order through the whole file, before all others; place: a byte of the file. */
     BROMAVELUTH_MAGIC = 40,          /* unknown magic; place: 0 */
-    BROMAVELUTH_LINK_TYPE = 41,      /* other link type than 1 (Ethernet) and 101 (raw IP), one 32-bit number; place: 20, its first byte */
+    BROMAVELUTH_LINK_TYPE = 41,      /* other link type than 1 (Ethernet), 101 (raw IP) and 113 (Linux cooked), one 32-bit number; place: 20 */
     BROMAVELUTH_FILE_ENDS = 42,      /* file ends inside a header or record, a file below four bytes too; place: where that begins */
     BROMAVELUTH_CAPTURED_LENGTH = 43 /* captured length above 16,384, before the record's body; place: where the record begins */
 };

@@ -11,7 +11,7 @@ TOOLS = os.path.dirname(os.path.realpath(__file__))
 ROOT = os.path.dirname(TOOLS)
 
 # Each by its number, from 0: one more is one word more.
-LINKS = ['Ethernet', 'RawIp']
+LINKS = ['Ethernet', 'RawIp', 'LinuxSll']
 MODES = ['plain', 'mended']
 
 DONE, REFUSED, USAGE, FAILED = 0, 1, 2, 3               # exit codes; tools/verdict has its own

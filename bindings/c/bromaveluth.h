@@ -29,14 +29,14 @@
  * It is measured and not proved. A program that binds memset lazily needs what its loader takes at the first call as well.
  *   function                   one primitive    any filter
  *   bromaveluth_version                    8             8
- *   bromaveluth_measure                  624           624
- *   bromaveluth_compile                1,392         1,392
- *   bromaveluth_evaluate                 848        94,752
+ *   bromaveluth_measure                  752           752
+ *   bromaveluth_compile                1,408         1,408
+ *   bromaveluth_evaluate                 848        94,736
  *   bromaveluth_run                      136           136
  *   bromaveluth_nots                     336        37,192
  *   bromaveluth_capture_open              80            80
- *   bromaveluth_capture                1,760         1,760
- *   bromaveluth_capture_part           1,744         1,744
+ *   bromaveluth_capture                1,776         1,776
+ *   bromaveluth_capture_part           1,760         1,760
  */
 #ifndef BROMAVELUTH_H
 #define BROMAVELUTH_H
@@ -57,12 +57,12 @@ extern "C" {
     (1000000u * BROMAVELUTH_VERSION_MAJOR + 1000u * BROMAVELUTH_VERSION_MINOR + BROMAVELUTH_VERSION_PATCH)
 
 /* Links and modes; any other number is refused (1). */
-enum { BROMAVELUTH_ETHERNET = 0, BROMAVELUTH_RAW_IP = 1 };
+enum { BROMAVELUTH_ETHERNET = 0, BROMAVELUTH_RAW_IP = 1, BROMAVELUTH_LINUX_SLL = 2 /* Linux's cooked header */ };
 enum { BROMAVELUTH_PLAIN = 0, BROMAVELUTH_MENDED = 1 };
 
 /* Refusals, in the order in which they are looked for; the place is 0 where none is named. */
 enum {
-    BROMAVELUTH_LINK_OR_MODE = 1,    /* link or mode above 1 */
+    BROMAVELUTH_LINK_OR_MODE = 1,    /* link above 2 or mode above 1 */
     BROMAVELUTH_LENGTH = 2,          /* sheet length differs from what its counts ask, or a count is cut */
     BROMAVELUTH_WRONG_BYTE = 3,      /* a code or unused byte is wrong; place: the lowest wrong byte */
     BROMAVELUTH_NOT_ONE_TREE = 4,    /* tokens are not one whole tree, or primitives or steps are left over or lacking */
@@ -75,8 +75,8 @@ enum {
     BROMAVELUTH_JUMP = 10,           /* jump distance above 32767 */
     BROMAVELUTH_ETHERTYPE = 11,      /* ethertype on RawIp other than 0x0800; place, here and below: the primitive */
     BROMAVELUTH_PORT_PROTOCOL = 12,  /* ports with p not 0, 5, 6 or 10 */
-    BROMAVELUTH_ETHER_HOST = 13,     /* EtherHost on RawIp */
-    BROMAVELUTH_ETHER_MULTICAST = 14, /* EtherMulticast on RawIp */
+    BROMAVELUTH_ETHER_HOST = 13,     /* EtherHost on RawIp or Linux cooked */
+    BROMAVELUTH_ETHER_MULTICAST = 14, /* EtherMulticast on RawIp or Linux cooked */
     BROMAVELUTH_MPLS = 15,           /* Mpls on RawIp */
     BROMAVELUTH_DIRECTION = 16,      /* Inbound, Outbound */
     BROMAVELUTH_LOAD = 17,           /* comparison with a load */
@@ -84,7 +84,7 @@ enum {
     BROMAVELUTH_MODULO = 19,         /* first bad step: Mod */
     /* Of a capture, looked for in file order through the whole file, before all others; place: a byte of the file. */
     BROMAVELUTH_MAGIC = 40,          /* unknown magic; place: 0 */
-    BROMAVELUTH_LINK_TYPE = 41,      /* other link type than 1 (Ethernet) and 101 (raw IP), one 32-bit number; place: 20, its first byte */
+    BROMAVELUTH_LINK_TYPE = 41,      /* other link type than 1 (Ethernet), 101 (raw IP) and 113 (Linux cooked), one 32-bit number; place: 20 */
     BROMAVELUTH_FILE_ENDS = 42,      /* file ends inside a header or record, a file below four bytes too; place: where that begins */
     BROMAVELUTH_CAPTURED_LENGTH = 43, /* captured length above 16,384, before the record's body; place: where the record begins */
     BROMAVELUTH_TOKENS = 50          /* bromaveluth_nots only, between 9 and 7: the new tree needs more than 65,535 tokens */
@@ -106,7 +106,7 @@ static inline const char *bromaveluth_refusal_text(uint8_t refusal)
 {
     switch (refusal) {
     case 0: return "no refusal";
-    case BROMAVELUTH_LINK_OR_MODE: return "link or mode above 1";
+    case BROMAVELUTH_LINK_OR_MODE: return "link above 2 or mode above 1";
     case BROMAVELUTH_LENGTH: return "sheet length differs from what its counts ask, or a count is cut";
     case BROMAVELUTH_WRONG_BYTE: return "a code or unused byte is wrong";
     case BROMAVELUTH_NOT_ONE_TREE: return "tokens are not one whole tree, or primitives or steps are left over or lacking";
@@ -118,8 +118,8 @@ static inline const char *bromaveluth_refusal_text(uint8_t refusal)
     case BROMAVELUTH_JUMP: return "jump distance above 32767";
     case BROMAVELUTH_ETHERTYPE: return "ethertype on RawIp other than 0x0800";
     case BROMAVELUTH_PORT_PROTOCOL: return "ports with p not 0, 5, 6 or 10";
-    case BROMAVELUTH_ETHER_HOST: return "EtherHost on RawIp";
-    case BROMAVELUTH_ETHER_MULTICAST: return "EtherMulticast on RawIp";
+    case BROMAVELUTH_ETHER_HOST: return "EtherHost on RawIp or Linux cooked";
+    case BROMAVELUTH_ETHER_MULTICAST: return "EtherMulticast on RawIp or Linux cooked";
     case BROMAVELUTH_MPLS: return "Mpls on RawIp";
     case BROMAVELUTH_DIRECTION: return "Inbound, Outbound";
     case BROMAVELUTH_LOAD: return "comparison with a load";

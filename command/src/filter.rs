@@ -62,7 +62,7 @@ fn hint(refusal: Refusal, file: &[u8]) -> String {
             "; this is pcapng, which \"editcap -F pcap\" turns into a capture that can be read".to_string()
         }
         (Refusal::Magic, _) if file.starts_with(&[0x1f, 0x8b]) => "; this is compressed by gzip".to_string(),
-        (Refusal::LinkType, Some(number)) => format!("; it is {number}, and 1 (Ethernet) and 101 (raw IP) can be read"),
+        (Refusal::LinkType, Some(number)) => format!("; it is {number}, and 1 (Ethernet), 101 (raw IP) and 113 (Linux cooked) can be read"),
         _ => String::new(),
     }
 }

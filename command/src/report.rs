@@ -100,8 +100,7 @@ fn line(text: &str) -> io::Result<()> {
 fn in_words(name: &str, outcome: &Outcome) -> io::Result<()> {
     match outcome {
         Outcome::Counted(link, counts) => {
-            let link = if *link == Link::Ethernet { "Ethernet" } else { "raw IP" };
-            return line(&format!("{}: {link}, {}", shown(name), classes(*counts)));
+            return line(&format!("{}: {}, {}", shown(name), link_words(*link), classes(*counts)));
         }
         Outcome::Refused(refused, text) => say(&format!("{name}: refused ({}): {text}", refused.refusal.number())),
         Outcome::Failed(text) => say(&format!("{name}: {text}")),
@@ -122,6 +121,15 @@ fn link_name(link: Link) -> &'static str {
     match link {
         Link::Ethernet => "Ethernet",
         Link::RawIp => "RawIp",
+        Link::LinuxSll => "LinuxSll",
+    }
+}
+
+fn link_words(link: Link) -> &'static str {
+    match link {
+        Link::Ethernet => "Ethernet",
+        Link::RawIp => "raw IP",
+        Link::LinuxSll => "Linux cooked",
     }
 }
 

@@ -76,6 +76,14 @@ static void compiles(void)
     SAME(compile(ip, sizeof ip, BROMAVELUTH_RAW_IP, BROMAVELUTH_PLAIN, 48, 14), 0);
     SAME(answer, 6);
     untouched(__LINE__, 48, 14);
+    /* Linux's cooked header: the half is asked for, and read, two bytes later */
+    SAME(compile(ip, sizeof ip, BROMAVELUTH_LINUX_SLL, BROMAVELUTH_PLAIN, 96, 20), 0);
+    SAME(answer, 12);
+    SAME(output[28], 16);
+    SAME(output[42], 14);
+    output[28] = 14;
+    output[42] = 12;
+    SAME(memcmp(output, listing, sizeof listing), 0);
 }
 
 static uint64_t tokens, bytes, numbers;
@@ -155,7 +163,7 @@ static void texts(void)
 static void refuses(void)
 {
     uint8_t sheet[sizeof ip];
-    SAME(compile(ip, sizeof ip, 2, BROMAVELUTH_PLAIN, ROOM, ROOM), BROMAVELUTH_LINK_OR_MODE);
+    SAME(compile(ip, sizeof ip, 3, BROMAVELUTH_PLAIN, ROOM, ROOM), BROMAVELUTH_LINK_OR_MODE);
     SAME(answer, 0);
     SAME(compile(ip, sizeof ip, BROMAVELUTH_ETHERNET, 255, ROOM, ROOM), BROMAVELUTH_LINK_OR_MODE);
     SAME(compile(ip, sizeof ip - 1, BROMAVELUTH_ETHERNET, BROMAVELUTH_PLAIN, ROOM, ROOM), BROMAVELUTH_LENGTH);
@@ -227,7 +235,7 @@ static void evaluates(void)
     SAME(answer, 1);
     SAME(evaluate(sheet, under_nots(sheet, 256), BROMAVELUTH_ETHERNET, arp_frame, 60), BROMAVELUTH_TOO_DEEP);
     SAME(answer, 0);
-    SAME(evaluate(ip, sizeof ip, 2, ip_frame, 60), BROMAVELUTH_LINK_OR_MODE);
+    SAME(evaluate(ip, sizeof ip, 3, ip_frame, 60), BROMAVELUTH_LINK_OR_MODE);
     SAME(answer, 0);
     SAME(evaluate(NULL, 0, BROMAVELUTH_ETHERNET, ip_frame, 60), BROMAVELUTH_LENGTH);
     SAME(answer, 0);

@@ -3,7 +3,7 @@
 
 #include <string.h>
 
-enum { HEADER = 24, RECORD = 16, MOST = 16384, ETHERNET_TYPE = 1, RAW_TYPE = 101 };
+enum { HEADER = 24, RECORD = 16, MOST = 16384, ETHERNET_TYPE = 1, RAW_TYPE = 101, COOKED_TYPE = 113 };
 #define MICRO 0xa1b2c3d4u
 #define NANO 0xa1b23c4du
 
@@ -145,6 +145,9 @@ static void opens(void)
             counts(__LINE__, 3, 0, 1);
             zeroed_work(__LINE__, 14);
             untouched(__LINE__, 48, 14);
+            four(nano ? NANO : MICRO, COOKED_TYPE);
+            SAME(opened(bytes), 0);
+            SAME(answer, BROMAVELUTH_LINUX_SLL);
             begin(nano ? NANO : MICRO, ETHERNET_TYPE);
             SAME(opened(HEADER), 0);
             SAME(captured(HEADER, ip, IP_SHEET, BROMAVELUTH_PLAIN, LISTING, 20), 0);
@@ -172,7 +175,7 @@ static void refuses_magic(void)
 
 static void refuses_link_types(void)
 {
-    static const uint32_t others[8] = {0, 2, 100, 102, 113, 0x01000000, 0x65000000, 0xffffffff};
+    static const uint32_t others[8] = {0, 2, 100, 102, 114, 0x01000000, 0x65000000, 0xffffffff};
     for (big = 0; big < 2; big++) {
         for (int i = 0; i < 8 + 64; i++) {
             uint32_t type = i < 8 ? others[i] : (i % 2 ? ETHERNET_TYPE : RAW_TYPE) ^ 1u << (i - 8) / 2;

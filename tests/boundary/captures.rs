@@ -98,6 +98,10 @@ fn a_file_picks_its_link_and_is_counted() {
         assert_eq!(capture(&file.bytes, &ip(), Mode::Plain), Ok(Counts { passed: 3, dropped: 0, cut: 1 }));
         assert_eq!(capture(&file.bytes, &sheet(7, 3, 0), Mode::Plain), refused(Refusal::Ethertype, 0));
     }
+    for file in all_fours(113) {
+        assert_eq!(open(&file.bytes), Ok(Link::LinuxSll));
+        assert_eq!(capture(&file.bytes, &sheet(10, 0, 0), Mode::Plain), refused(Refusal::EtherMulticast, 0));
+    }
     assert_eq!(FOUR.records(), 4);
     // an original length of all 32 bits
     let huge = File::new(u32::to_le_bytes, MICRO, 1).record(&frame([8, 0]), 0x8000_0000).record(&[], u32::MAX);
@@ -112,7 +116,7 @@ fn a_file_is_refused_before_the_sheet() {
         (b"xyz".to_vec(), Refusal::FileEnds, 0),
         (file.bytes[..23].to_vec(), Refusal::FileEnds, 0),
         (vec![0; 23], Refusal::Magic, 0),
-        (four(u32::to_be_bytes, NANO, 113).bytes, Refusal::LinkType, 20),
+        (four(u32::to_be_bytes, NANO, 114).bytes, Refusal::LinkType, 20),
         (four(u32::to_le_bytes, NANO, 0x1_0001).bytes, Refusal::LinkType, 20),
         (four(u32::to_be_bytes, NANO, 0x1000_0065).bytes, Refusal::LinkType, 20),
         (file.bytes[..257].to_vec(), Refusal::FileEnds, 222),

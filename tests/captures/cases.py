@@ -103,6 +103,11 @@ def raw(frames):
     return [(f[0][14:], f[1] - 14) if isinstance(f, tuple) else f[14:] for f in frames]
 
 
+def cooked(frames):
+    """The same behind Linux's cooked header: 14 bytes, then the ethertype."""
+    return [(b'\0\0\0\1\0\6' + bytes(8) + f[0][12:], f[1] + 2) if isinstance(f, tuple) else b'\0\0\0\1\0\6' + bytes(8) + f[12:] for f in frames]
+
+
 def replaced(file, at, new):
     return file[:at] + new + file[at + len(new):]
 
@@ -114,7 +119,7 @@ def starts(file):
 # --------------------------------------------------------------------- the parts
 
 def forms():
-    """Both byte orders, both magics, both links, both modes."""
+    """Both byte orders, both magics, the three links, both modes."""
     for order, magic in FORMS:
         eth = savefile.write(SMALL, 1, order, magic)
         both_modes(eth, IP, (0, 1, 1, 1, len(eth)))
@@ -124,6 +129,11 @@ def forms():
         both_modes(ip, model.write(model.protocol('tcp')), (0, 1, 1, 1, len(ip)))
         both_modes(savefile.write([], 1, order, magic), IP, (0, 0, 0, 0, 24))
         both_modes(savefile.write([], 101, order, magic), IP, (0, 0, 0, 0, 24))
+        sll = savefile.write(cooked([ip_frame(), ip_frame(6), (ip_frame(), 100)]), 113, order, magic)
+        both_modes(sll, IP, (0, 2, 0, 1, len(sll)))
+        both_modes(sll, model.write(model.protocol('tcp')), (0, 1, 1, 1, len(sll)))
+        both_modes(sll, model.write(model.etherhost('either', bytes(6))), (13, 0))
+        both_modes(savefile.write([], 113, order, magic), IP, (0, 0, 0, 0, 24))
 
 
 def magics():
@@ -150,7 +160,7 @@ def link_types():
     """41: all 32 bits of the type, in the file's own byte order."""
     for order, magic in FORMS:
         good = savefile.write(SMALL, 1, order, magic)
-        wrong = [0, 2, 3, 100, 102, 113, 228, 256 + 1, 65536 + 1, 2 ** 24 + 1, 2 ** 26 + 1, 2 ** 31 + 1, 0xf4000001, 256 + 101,
+        wrong = [0, 2, 3, 100, 102, 112, 114, 228, 276, 256 + 113, 256 + 1, 65536 + 1, 2 ** 24 + 1, 2 ** 26 + 1, 2 ** 31 + 1, 0xf4000001, 256 + 101,
                  101 << 8, 101 << 16, 101 << 24, 1 << 8, 1 << 16, 1 << 24, 2 ** 32 - 1]
         for kind in wrong:
             P(replaced(good, 20, struct.pack(order + 'I', kind)), IP, (41, 20))

@@ -227,6 +227,19 @@ def stripped(records):
     return [(frame[14:], max(original - 14, 0)) for frame, original in records if frame[12:14] == b'\x08\0' and frame[14:15] and frame[14] >> 4 == 4]
 
 
+def cooked(records):
+    """Frames of Ethernet with Linux's cooked header in the place of theirs: received, from an Ethernet device, with the source's address.
+    A length in the place of the ethertype has no like there."""
+    return [(b'\0\0\0\1\0\6' + frame[6:12] + b'\0\0' + frame[12:], original + 2) for frame, original in records
+            if len(frame) >= 14 and frame[12:14] >= b'\x06\0']
+
+
+def says(path, f):
+    """Whether tcpdump takes the filter on this link."""
+    return subprocess.run(['tcpdump', '-Z', 'root', '-n', '-r', path, '--count', f.theirs],
+                          stdout=subprocess.DEVNULL, stderr=subprocess.DEVNULL).returncode == 0
+
+
 def refused_there(count, f, sheet_path, path, link):
     """A filter that means nothing on this link is refused, as the model says."""
     meant = model.check(link, 1, f.sheet)
@@ -240,11 +253,14 @@ def compare_link(link, captures, more, count, sheets, folder, found):
     """All filters on the captures of one link, and on `more` frames, which stand in no file."""
     chosen, records, first = by_link(captures, link)
     every = records + more
-    path = written(os.path.join(folder, 'all%d' % link), numbered(every, 101 if link else 1))
-    verdicts = counts = said = plain = passed = 0
+    path = written(os.path.join(folder, 'all%d' % link), numbered(every, {link: kind for kind, link in savefile.LINKS.items()}[link]))
+    verdicts = counts = said = plain = passed = unsaid = 0
     for f, sheet_path in sheets:
         if not sayable(f, link):
             refused_there(count, f, sheet_path, path, link)
+            continue
+        if link == model.COOKED and not says(path, f):
+            unsaid += 1
             continue
         answer = run_count(count, sheet_path, [path], True)[0]
         if answer[0]:
@@ -258,7 +274,8 @@ def compare_link(link, captures, more, count, sheets, folder, found):
         said += 1
         passed += theirs
     print('link %d: %d files, %d frames and %d made, %d filters: %d verdicts beside tcpdump\'s and the model\'s (%d pass), %d counts beside '
-          '--count; %d filters in plain mode too' % (link, len(chosen), len(records), len(more), said, verdicts, passed, counts, plain))
+          '--count; %d filters in plain mode too%s' % (link, len(chosen), len(records), len(more), said, verdicts, passed, counts, plain,
+                                                       '; tcpdump does not take %d more on this link' % unsaid if unsaid else ''))
 
 
 def small_ones(captures):
@@ -319,6 +336,7 @@ def compare(captures, count, pairs, folder):
     ethernet = by_link(captures, model.ETHERNET)[1]
     compare_link(model.ETHERNET, captures, rules.MADE, count, sheets, folder, found)
     compare_link(model.RAWIP, captures, stripped(ethernet), count, sheets, folder, found)
+    compare_link(model.COOKED, captures, cooked(ethernet), count, sheets, folder, found)
     compare_forms([c for c in captures if c.copy], count, sheets, folder)
     for c in small_ones(captures):
         by = compare_cuts(c, count, *sheets[0], folder)

@@ -84,12 +84,12 @@ static struct counted of_parts(struct bytes file, struct bytes sheet, uint8_t mo
     return sum;
 }
 
-/* 40 to 43 are the same from both; where the file is fine, the open call names link 0 or 1. */
+/* 40 to 43 are the same from both; where the file is fine, the open call names link 0, 1 or 2. */
 static int opens_alike(struct bytes file, struct counted c)
 {
     uint64_t answer;
     uint8_t status = bromaveluth_capture_open(file.at, file.n, &answer);
-    return status ? status == c.status && answer == c.answer : c.status < 40 && answer < 2;
+    return status ? status == c.status && answer == c.answer : c.status < 40 && answer < 3;
 }
 
 static int tell(const char *path, struct bytes sheet, uint8_t mode, int each)

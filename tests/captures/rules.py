@@ -76,11 +76,11 @@ def more_than_there_was(link, f, frame, original):
 
 
 def other_vlan_tags(link, f, frame, original):
-    return 'vlan' in f.kinds and half(frame, 12) in (0x88a8, 0x9100)
+    return 'vlan' in f.kinds and half(frame, model.TYPE[link]) in (0x88a8, 0x9100)
 
 
 def mpls_multicast(link, f, frame, original):
-    return 'mpls' in f.kinds and half(frame, 12) == 0x8848
+    return 'mpls' in f.kinds and half(frame, model.TYPE[link]) == 0x8848
 
 
 def not_version_4(link, f, frame, original):

@@ -13,7 +13,7 @@ import model
 
 MICRO, NANO = 0xa1b2c3d4, 0xa1b23c4d
 HEADER, RECORD, MOST = 24, 16, 16384
-LINKS = {1: model.ETHERNET, 101: model.RAWIP}      # "link type 1 Ethernet, 101 raw IP"
+LINKS = {1: model.ETHERNET, 101: model.RAWIP, 113: model.COOKED}    # "link type 1 Ethernet, 101 raw IP", "A1 takes type 113"
 
 
 def order_of(file):

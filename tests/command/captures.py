@@ -8,7 +8,7 @@ sys.path.insert(0, os.path.join(os.path.dirname(os.path.abspath(__file__)), '../
 import model
 
 MICRO, NANO = 0xa1b2c3d4, 0xa1b23c4d
-LINK_TYPES = {model.ETHERNET: 1, model.RAWIP: 101}
+LINK_TYPES = {model.ETHERNET: 1, model.RAWIP: 101, model.COOKED: 113}
 
 
 def header(order='<', magic=MICRO, link_type=1):

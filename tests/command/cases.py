@@ -92,11 +92,13 @@ def counts():
             same('a good file', run('capture', 'ip', name), (0, 'good.pcap: Ethernet, 4 records: 2 passed, 1 dropped, 1 cut\n', ''))
     put('empty.pcap', c.header())
     put('raw.pcap', c.capture(RAW, '>', link_type=101))
+    put('cooked.pcap', c.capture([(bytes(14) + b'\x08\0' + frame, n + 16) for frame, n in RAW], '>', link_type=113))
     put('--odd', c.capture(FOUR[:1]))
     same('no records', run('capture', 'ip', 'empty.pcap'), (0, 'empty.pcap: Ethernet, 0 records: 0 passed, 0 dropped, 0 cut\n', ''))
     same('several files', run('capture', 'ip', 'good.pcap', 'raw.pcap', 'empty.pcap'), (
         0, 'good.pcap: Ethernet, 4 records: 2 passed, 1 dropped, 1 cut\nraw.pcap: raw IP, 2 records: 2 passed, 0 dropped, 0 cut\n'
         'empty.pcap: Ethernet, 0 records: 0 passed, 0 dropped, 0 cut\ntotal of 3 files: 6 records: 4 passed, 1 dropped, 1 cut\n', ''))
+    same('a cooked file', run('capture', 'src host 10.0.0.1', 'cooked.pcap'), (0, 'cooked.pcap: Linux cooked, 2 records: 1 passed, 1 dropped, 0 cut\n', ''))
     same('an odd name', run('capture', '--', 'ip', '--odd'), (0, '--odd: Ethernet, 1 record: 1 passed, 0 dropped, 0 cut\n', ''))
     # document 01, K6: plain mode drops the very frame that it names
     high = 'src host 192.168.1.20'
@@ -145,7 +147,8 @@ def refused_filters():
     for notation, name, number, text in [
             ('ip and not arp', 'raw.pcap', 11, 'ethertype on RawIp other than 0x0800: test 2 of the filter, "arp"'),
             ('icmp   port\n 7', 'raw.pcap', 12, 'ports with p not 0, 5, 6 or 10: test 1 of the filter, "icmp port 7"'),
-            ('ether host 02:00:00:00:00:01', 'raw.pcap', 13, 'EtherHost on RawIp: test 1 of the filter, "ether host 02:00:00:00:00:01"'),
+            ('ip or ether multicast', 'cooked.pcap', 14, 'EtherMulticast on RawIp or Linux cooked: test 2 of the filter, "ether multicast"'),
+            ('ether host 02:00:00:00:00:01', 'raw.pcap', 13, 'EtherHost on RawIp or Linux cooked: test 1 of the filter, "ether host 02:00:00:00:00:01"'),
             ('ip or inbound', 'good.pcap', 16, 'Inbound, Outbound: test 2 of the filter, "inbound"'),
             ('raw[0] = raw[1]', 'good.pcap', 17, 'comparison with a load: test 1 of the filter, "raw[0] = raw[1]"'),
             ('ip and (arp or raw[0] % 2 = 1)', 'good.pcap', 19, 'first bad step: Mod: test 3 of the filter, "raw[0] % 2 = 1"'),
@@ -169,8 +172,8 @@ BAD = [
     (c.header()[:4], 42, 0, ''), (c.header()[:23], 42, 0, ''), (b'\0' * 23, 40, 0, ''),
     (b'\x0a\x0d\x0d\x0a' + bytes(100), 40, 0, '; this is pcapng, which "editcap -F pcap" turns into a capture that can be read'),
     (b'\x1f\x8b' + bytes(100), 40, 0, '; this is compressed by gzip'),
-    (c.header(link_type=113), 41, 20, '; it is 113, and 1 (Ethernet) and 101 (raw IP) can be read'),
-    (c.header('>', link_type=0x10000001), 41, 20, '; it is 268435457, and 1 (Ethernet) and 101 (raw IP) can be read'),
+    (c.header(link_type=276), 41, 20, '; it is 276, and 1 (Ethernet), 101 (raw IP) and 113 (Linux cooked) can be read'),
+    (c.header('>', link_type=0x10000001), 41, 20, '; it is 268435457, and 1 (Ethernet), 101 (raw IP) and 113 (Linux cooked) can be read'),
     (c.header() + c.record(IP)[:15], 42, 24, ''), (c.header() + c.record(IP)[:-1], 42, 24, ''),
     (c.header() + c.record(IP) + c.record(b'', captured=16385), 43, 100, ''),
     (c.header() + c.record(IP) + c.record(b'', captured=16384), 42, 100, ''),
@@ -286,11 +289,11 @@ def against_model():
     r = random.Random(17)
     tests = ['ip', 'tcp', 'udp port 53', 'src host 10.0.0.1', 'net 192.168.0.0/16', 'len > 50', 'net[9] = 17', 'not dst port 53', 'portrange 1-2000']
     for i in range(60):
-        link = r.randrange(2)
+        link = r.randrange(3)
         notation = r.choice([' and ', ' or ']).join(r.sample(tests, r.randint(1, 4)))
         frames = [c.ipv4(bytes([r.choice([10, 192]), r.choice([0, 168]), 0, r.randint(0, 3)]), r.choice([6, 17]), (r.choice([9, 3000]), r.choice([53, 80])))
                   for _ in range(20)]
-        frames = [(bytes(12) + r.choice([b'\x08\0', b'\x08\0', b'\x86\xdd']) if link == 0 else b'') + f[:r.choice([99, 99, r.randint(0, 32)])] for f in frames]
+        frames = [(b'' if link == 1 else bytes(12 + link) + r.choice([b'\x08\0', b'\x08\0', b'\x86\xdd'])) + f[:r.choice([99, 99, r.randint(0, 32)])] for f in frames]
         records = [(f, r.choice([len(f), len(f), len(f) + 1, 0])) for f in r.choices(frames, k=100000 if i == 0 else r.randint(0, 60))]
         order, magic = r.choice('<>'), r.choice([c.MICRO, c.NANO])
         judged(notation, records, link, order, magic, i)
@@ -306,7 +309,7 @@ def judged(notation, records, link, order, magic, i):
     new = ['passed%d.pcap' % i, 'dropped%d.pcap' % i]
     code, out, err = run('capture', notation, name, '--passed', new[0], '--dropped', new[1])
     many = '%d record%s' % (len(records), '' if len(records) == 1 else 's')
-    words = '%s: %s, %s: %d passed, %d dropped, %d cut' % (name, ['Ethernet', 'raw IP'][link], many, *map(len, classes))
+    words = '%s: %s, %s: %d passed, %d dropped, %d cut' % (name, ['Ethernet', 'raw IP', 'Linux cooked'][link], many, *map(len, classes))
     same('%s on capture %d' % (notation, i), (code, out.split('\n')[0], err), (0, words, ''))
     for path, wanted in zip(new, classes):
         same('the new capture %s' % path, got(path) == c.capture(wanted, order, magic, c.LINK_TYPES[link]), True)
@@ -420,7 +423,7 @@ def progress():
 def readme():
     """The commands of command/README.md answer what stands under them there."""
     put('site.pcap', c.site())
-    put('cooked.pcap', c.header(link_type=113))
+    put('wlan.pcap', c.header(link_type=105))
     with open(os.path.join(HERE, '../../command/README.md'), encoding='utf-8') as f:
         lines = [line[4:] for line in f.read().split('\n') if line.startswith('    ')]
     places = [i for i, line in enumerate(lines) if line.startswith('$ bromaveluth ')]

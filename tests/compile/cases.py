@@ -69,7 +69,7 @@ def fixed():
                 yield fit(RAWIP if i % 2 else ETHERNET, (i + j) // 4 % 2, tree)
     for prefix in range(0, 256, 5):
         yield fit(ETHERNET, PLAIN, net6(DIRECTIONS[prefix % 4], SIX, prefix))
-    for link, mode in ((2, 0), (0, 2), (255, 255)):
+    for link, mode in ((3, 0), (0, 2), (255, 255)):
         yield (link, mode, 4096, 4096, K2)
     for n in (0, 1, 2, 3, 4, 5, 27, 28, 29, 30, 32):
         yield (ETHERNET, PLAIN, 96, 20, (K2 + b'\0')[:n])
@@ -91,6 +91,16 @@ def fixed():
         if i % 3 == 0:
             sheet = damaged(dice, sheet)
         yield (link, mode, *some_room(dice, link, mode, sheet), sheet)
+    yield from cooked(dice)
+
+
+def cooked(dice):
+    """Link 2: every test, and trees of them."""
+    for i, tree in enumerate(ALL_TESTS):
+        yield fit(COOKED, i % 2, tree)
+    for i in range(60):
+        sheet = write(any_tree(dice, 2 + dice.below(5), lambda: any_test(dice, COOKED)))
+        yield (COOKED, i % 2, *some_room(dice, COOKED, i % 2, sheet), sheet)
 
 
 def write_cases(folder):

@@ -23,18 +23,20 @@ def steps(n, more=b''):
 def cases():
     yield b'', '1 0\n'                                      # "fewer than two bytes print `1 0`"
     yield b'\0', '1 0\n'
-    yield b'\2', '1 0\n'
+    yield b'\3', '1 0\n'
     yield b'\0\0', '2 0\n'                                  # an empty sheet is cut
-    yield b'\2\0' + IP, '1 0\n'
+    yield b'\3\0' + IP, '1 0\n'                            # "1 is now a link above 2 or a mode above 1"
     yield b'\0\2' + IP, '1 0\n'
     yield b'\0\0' + IP, K2                                  # K2, its listing
     yield b'\1\0' + IP, '0 6\n' + ''.join(K2.splitlines(True)[i] for i in (1, 2, 9, 10, 11, 12))    # K1: L 6
+    # document 02, A9: "its protocol at 14", so that K2's half is asked for, and read, two bytes later
+    yield b'\2\0' + IP, K2.replace('070500000e000000', '0705000010000000').replace('69240c00', '69240e00')
     full = steps(13101)
     assert len(full) == 65536
     yield b'\0\0' + full, '7 0\n'                           # 64 KiB are read; L is 13,112, the output has room for 8,192
     yield b'\0\0' + full + b'\0', '2 0\n'                   # "past refusal 1, a longer sheet is refused 2"
     yield b'\0\0' + steps(13101, b'\0'), '2 0\n'
-    yield b'\2\0' + full + b'\0', '1 0\n'
+    yield b'\3\0' + full + b'\0', '1 0\n'
     yield b'\0\2' + full + b'\0', '1 0\n'
     yield b'\0\0' + steps(13100) + 100000 * b'\0', '2 0\n'
 

@@ -571,16 +571,16 @@ def lengths():
 
 def links_and_modes():
     ok, bad = write(IP), b'\xff'
-    for link in (0, 1, 2, 128, 255):
+    for link in (0, 1, 2, 3, 128, 255):
         for m in (0, 1, 2, 255):
-            fine = link < 2 and m < 2
+            fine = link < 3 and m < 2
             S(link, m, ok, 0 if fine else (1, 0))
             S(link, m, bad, (2, 0) if fine else (1, 0))
     for sheet in (b'', bytes(6), put(ok, 4, b'\0'), write(access('raw', 1, -1, 'eq', 0))):
-        S(2, 0, sheet, (1, 0))
+        S(3, 0, sheet, (1, 0))
         S(0, 2, sheet, (1, 0))
-        E(2, sheet, b'', (1, 0))
-    for link in (2, 128, 255):
+        E(3, sheet, b'', (1, 0))
+    for link in (3, 128, 255):
         E(link, ok, eth(0x0800), (1, 0))
         E(link, bad, b'', (1, 0))
 
@@ -1335,7 +1335,7 @@ def depths():
     E(0, deep[:-1] + b'\3', yes, (4, 0))
     E(0, nots(300, access('raw', 1, -1, 'eq', 1)), yes, (5, 0))
     E(0, nots(300, access('raw', 1, 0, 'eq', 1, [('shl', 32)])), yes, (6, 0))
-    E(2, deep, yes, (1, 0))
+    E(3, deep, yes, (1, 0))
     # beyond the limit the meaning itself goes on
     assert holds(0, write(nots(2000, a)), yes) and not holds(0, write(nots(2001, a)), yes)
     assert holds(0, write(nots(65534, a)), yes)
@@ -1380,6 +1380,47 @@ def refused():
             E(RAWIP, tree, frame, (11, 0))
 
 
+# ------------------------------------------------------------ link 2
+
+def moves(sheet):
+    """Whether all that a sheet reads stands behind the link's header: no MAC address, no byte from the frame's start, no length; and no offset at its limit."""
+    return all(not bad_offset(r, COOKED) and KINDS[r[0]] not in ('etherhost', 'ethermulticast', 'len')
+               and not (KINDS[r[0]] == 'byteaccess' and LAYERS[r[1]] == 'raw') for r, _ in content(sheet)[0])
+
+
+def cooked():
+    """Document 02, A9.  Linux's cooked header has its protocol at 14 and 16 bytes, where Ethernet has 12 and 14: what holds on an Ethernet
+    frame holds on a cooked one with two bytes more in front, and costs the same.  MAC addresses are not there."""
+    for letter, data, answer, _ in list(cases):
+        if letter == 'A' or data[1] != ETHERNET or len(data) > 400 or answer[0] not in (0, 11, 12, 15, 16, 17, 18, 19) or dice.below(6):
+            continue
+        at = {'S': 7, 'E': 6}[letter]
+        end = at + number(data[at - 4:at])
+        sheet = data[at:end]
+        if moves(sheet):
+            if letter == 'E':
+                E(COOKED, sheet, dice.bytes(2) + data[end + 4:], answer if answer[0] else answer[1] == 1)
+            elif answer[0] == 0:
+                S(COOKED, data[2], sheet, 0, L=answer[4])
+    frame = bytes.fromhex('0000000100060011223344550000') + b'\x08\x00' + ip4(6, A, B, two(443, 80))
+    for tree, want in ((protocol('ip'), True), (host4('source', A), True), (host4('source', B), False), (port('destination', 80), True),
+                       (etherproto(0x0800), True), (etherproto(0x0806), False), (protocol('ip6'), False),
+                       (access('raw', 2, 14, 'eq', 0x0800), True), (access('net', 1, 9, 'eq', 6), True), (access('trans', 2, 2, 'eq', 80), True)):
+        E(COOKED, tree, frame, want)
+        E(COOKED, no(tree), frame, not want)
+    front = frame[:14]
+    needs(COOKED, tagged('vlan', 5), front + bytes.fromhex('8100f005'), 18)
+    needs(COOKED, tagged('vlan'), front + bytes.fromhex('8100f005'), 16)
+    needs(COOKED, tagged('mpls', 0x12345), front + bytes.fromhex('884712345fff'), 20)
+    needs(COOKED, tagged('pppoesession', 7), front + bytes.fromhex('886400000007'), 20)
+    for tree, want in ((etherhost('either', MAC), 13), (bare('ethermulticast'), 14), (either(protocol('ip'), etherhost('source', MAC)), 13)):
+        place = 1 if tree[0] == 'or' else 0
+        S(COOKED, mode(), write(tree), 0, R=(want, place))
+        E(COOKED, tree, frame, (want, place))
+    for layer, offset, want in (('net', 32751, 0), ('net', 32752, (5, 0)), ('raw', 32767, 0), ('raw', 32768, (5, 0)), ('trans', 32767, 0)):
+        S(COOKED, mode(), write(access(layer, 1, offset, 'eq', 0)), want)
+
+
 # ------------------------------------------------------------ refusals 7 and 8
 
 def room():
@@ -1412,7 +1453,7 @@ def room():
 PARTS = [worked_examples, every_kind, prefixes, wrong_bytes, wrong_dependent, wrong_sections, lengths,
          links_and_modes, trees, large, offsets, shifts, first_refusals, any_sheets,
          hosts4, nets4, hosts6, nets6, ports_, header_lengths, protocols, macs, groups, tags, frame_lengths,
-         accesses, steps_, logic, depths, refused, room]
+         accesses, steps_, logic, depths, refused, cooked, room]
 
 
 def kinds_of(data):

@@ -5,8 +5,13 @@ Byte strings in, plain tuples and numbers out.  Quoted lines are document 01's.
 Nothing here recurses, so trees may have any depth.
 """
 
-ETHERNET, RAWIP = 0, 1
-NET = {ETHERNET: 14, RAWIP: 0}          # where the network header starts
+ETHERNET, RAWIP, COOKED = 0, 1, 2
+LINKS = (ETHERNET, RAWIP, COOKED)
+# Document 02, A9: "where the ethertype is, if anywhere; where the network
+# header starts; whether MAC addresses are there".
+TYPE = {ETHERNET: 12, RAWIP: None, COOKED: 14}
+NET = {ETHERNET: 14, RAWIP: 0, COOKED: 16}
+MACS = {ETHERNET: True, RAWIP: False, COOKED: False}
 
 # Codes, each list in the order of its Rust type.
 DIRECTIONS = ['either', 'source', 'destination', 'both']            # Dir
@@ -192,7 +197,7 @@ def bad_shift(steps):
 def check(link, mode, sheet):
     """(number, place) of refusals 1 to 6 in their order, or (0, steps,
     primitives, tokens): the three counts."""
-    if link > 1 or mode > 1:
+    if link > 2 or mode > 1:
         return (1, 0)
     if sections(sheet) is None:
         return (2, 0)
@@ -232,11 +237,13 @@ def refusal_of(r, steps, link):
     """0, or which of 11 to 19 a primitive earns (the one the Rust meets
     first; the place is the primitive)."""
     kind = KINDS[r[0]]
-    if link == RAWIP:
+    if TYPE[link] is None:
         if wanted_ethertype(r) not in (None, 0x0800):
             return 11                               # ethertype other than 0x0800
-        if kind in ('etherhost', 'ethermulticast', 'mpls'):
-            return {'etherhost': 13, 'ethermulticast': 14, 'mpls': 15}[kind]
+        if kind == 'mpls':
+            return 15
+    if not MACS[link] and kind in ('etherhost', 'ethermulticast'):
+        return {'etherhost': 13, 'ethermulticast': 14}[kind]
     if kind in ('port', 'portrange') and r[2] not in (0, 5, 6, 10):
         return 12                                   # ports with p not 0, 5, 6 or 10
     if kind in ('inbound', 'outbound'):
@@ -277,7 +284,7 @@ def sides(direction, one, between):
 def port_prereqs(p, link):
     proto = BYTE + (2 if p == 0 else 1) * JUMP      # none: jeq 6, jne 17
     ipv4 = proto + BYTE + 5 + 3                     # low four bits times four, R6; four bytes there
-    if link == RAWIP:
+    if TYPE[link] is None:
         return ipv4
     ipv6 = proto + 2 + 3 + JUMP                     # R6; four bytes there; past IPv4
     return HALF + 2 * JUMP + ipv6 + ipv4
@@ -293,7 +300,7 @@ def instructions(r, steps, link):
     """The Rust's count for one primitive that earns none of 11 to 19."""
     kind, direction, p = KINDS[r[0]], r[1], r[2]
     ether = HALF + JUMP
-    ip = ether if link == ETHERNET else 0           # "RawIp emits nothing for 0x0800"
+    ip = 0 if TYPE[link] is None else ether         # "RawIp emits nothing for 0x0800"
     if kind == 'host4':
         return ip + sides(direction, WORD + JUMP, 0)
     if kind == 'host6':
@@ -308,7 +315,7 @@ def instructions(r, steps, link):
         return ether + sides(direction, net6_halves(p), JUMP)
     if kind == 'proto':
         if PROTOS[p] in ('tcp', 'udp', 'sctp'):
-            if link == RAWIP:
+            if TYPE[link] is None:
                 return BYTE + JUMP
             return HALF + 2 * JUMP + (BYTE + JUMP) + JUMP + (BYTE + JUMP)
         if PROTOS[p] in ('ip', 'ip6', 'arp', 'rarp'):
@@ -378,7 +385,7 @@ def field(frame, at, size):
 
 def ethertype(link, frame, x):
     """"The half at 12 is x. On RawIp 0x0800 is true." """
-    return x == 0x0800 if link == RAWIP else field(frame, 12, 2) == x
+    return x == 0x0800 if TYPE[link] is None else field(frame, TYPE[link], 2) == x
 
 
 def by_direction(direction, source, destination):
@@ -532,14 +539,14 @@ def test(link, frame, r, steps):
     if kind == 'ip6multicast':          # "net+24 is 0xff"
         return ethertype(link, frame, 0x86dd) and field(frame, net + 24, 1) == 0xff
     if kind == 'vlan':                  # "0x8100, low 12 bits of the half at 14"
-        return ethertype(link, frame, 0x8100) and tag(frame, 14, 2, 0, 0xfff, r)
+        return ethertype(link, frame, 0x8100) and tag(frame, TYPE[link] + 2, 2, 0, 0xfff, r)
     if kind == 'mpls':                  # "0x8847 or 0x8848, top 20 bits of the word at 14"
         return ((ethertype(link, frame, 0x8847) or ethertype(link, frame, 0x8848))
-                and tag(frame, 14, 4, 12, 0xfffff, r))
+                and tag(frame, TYPE[link] + 2, 4, 12, 0xfffff, r))
     if kind == 'pppoediscovery':
         return ethertype(link, frame, 0x8863)
     if kind == 'pppoesession':          # "0x8864, half at 16"
-        return ethertype(link, frame, 0x8864) and tag(frame, 16, 2, 0, 0xffff, r)
+        return ethertype(link, frame, 0x8864) and tag(frame, TYPE[link] + 4, 2, 0, 0xffff, r)
     if kind == 'ipprotochain':          # "the Chain kinds are Num and Ip6Proto"
         return ip_protocol(link, frame, p)
     if kind == 'ip6protochain':

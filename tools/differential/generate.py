@@ -53,7 +53,7 @@ def open_jumps(r, steps, link):
     failure = None if n == 0 else 3 if kind == 'len' and COMPARISONS[p] == 'bitand' else 2
     success = None
     if kind in HAS_DIRECTION and DIRECTIONS[r[1]] == 'either':
-        ip = 6 if link == ETHERNET else 0
+        ip = 0 if TYPE[link] is None else 6
         success = {'host4': lambda: ip + 5, 'net': lambda: ip + 6,      # jeq after the first word
                    'host6': lambda: 6 + 48, 'net6': lambda: 6 + net6_halves(p), 'etherhost': lambda: 12,    # ja
                    'port': lambda: port_prereqs(p, link) + 2,
@@ -326,10 +326,12 @@ def any_offset(dice):
 
 
 def any_test(dice, link):
-    """A test of any kind; on RawIp mostly one that is not refused."""
-    kind = KINDS[dice.pick([1, 3, 4, 5, 7, 9, 11, 12, 18, 20, 23]) if link and dice.below(8) else 1 + dice.below(23)]
+    """A test of any kind; on RawIp and behind a cooked header mostly one that is not refused."""
+    kind = KINDS[dice.pick([1, 3, 4, 5, 7, 9, 11, 12, 18, 20, 23]) if link == RAWIP and dice.below(8) else 1 + dice.below(23)]
     if kind in ('inbound', 'outbound') and dice.below(3):
         kind = 'byteaccess'
+    if kind in ('etherhost', 'ethermulticast') and link == COOKED and dice.below(3):
+        kind = 'vlan'
     d, word = dice.pick(DIRECTIONS), dice.pick(WORDS + [dice.word()] * 4)
     half = dice.pick(HALVES + [dice.below(65536)] * 4)
     name = dice.pick([None, 'tcp', 'udp', 'sctp']) if dice.below(8) else dice.pick(PROTOS)
@@ -347,12 +349,12 @@ def any_test(dice, link):
     if kind == 'net6':
         return net6(d, dice.bytes(16), dice.below(129) if dice.below(4) else dice.below(256))
     if kind == 'proto':
-        name = dice.pick(['ip', 'tcp', 'udp', 'icmp', 'igmp', 'sctp', 'num']) if link and dice.below(8) else dice.pick(PROTOS[1:])
+        name = dice.pick(['ip', 'tcp', 'udp', 'icmp', 'igmp', 'sctp', 'num']) if link == RAWIP and dice.below(8) else dice.pick(PROTOS[1:])
         return protocol((name, dice.below(256)) if name in ('num', 'ip6proto') else name)
     if kind == 'etherhost':
         return etherhost(d, dice.bytes(6))
     if kind == 'etherproto':
-        return etherproto(0x0800 if link and dice.below(8) else dice.pick(TYPES + HALVES))
+        return etherproto(0x0800 if link == RAWIP and dice.below(8) else dice.pick(TYPES + HALVES))
     if kind in ('vlan', 'mpls', 'pppoesession'):
         return tagged(kind, dice.pick([None, half, word if kind == 'mpls' else half]))
     if kind in ('ipprotochain', 'ip6protochain'):
@@ -479,7 +481,7 @@ def in_turn():
     def fit(link, mode, tree):
         sheet = write(tree)
         return (link, mode, *enough(link, sheet), sheet)
-    for link in (ETHERNET, RAWIP):
+    for link in LINKS:
         for mode in (0, 1):
             for tree in ALL_TESTS:
                 yield fit(link, mode, tree)
@@ -492,12 +494,12 @@ def in_turn():
         for i, d in enumerate(DIRECTIONS):
             if prefix < 40 or prefix % 16 in (0, 1, 15) or prefix % 4 == i:
                 yield fit(ETHERNET, prefix % 2, net6(d, SIX, prefix))
-    for link, mode in ((2, 0), (255, 1), (0, 2), (1, 255), (2, 2)):
+    for link, mode in ((3, 0), (255, 1), (0, 2), (1, 255), (2, 2), (3, 3)):
         for sheet in (b'', bytes(6), write(IP)):
             yield (link, mode, 0, 0, sheet)
     for n in range(32):                                 # cut everywhere
         yield (ETHERNET, 0, 96, 20, write(IP)[:n])
-    for link in (ETHERNET, RAWIP):                      # 7 and 8
+    for link in LINKS:                      # 7 and 8
         for tree in (IP, E4, no(PR), either(IN, IP), both(E6, nots(3, IP)), long_one(50), joined([E4] * 20, 'or')):
             sheet = write(tree)
             output, work = enough(link, sheet)
@@ -509,7 +511,7 @@ def in_turn():
                 yield (link, 1, output + 100, work - less, sheet)
             yield (link, 0, MOST, MOST, sheet)
     for i, tree in enumerate(every_chain()):
-        for link in (ETHERNET, RAWIP):
+        for link in LINKS:
             yield fit(link, (i + link) % 2, tree)
     for i, (link, tree) in enumerate((*large(), *every_jump())):
         yield fit(link, i % 2, tree)
@@ -517,10 +519,10 @@ def in_turn():
 
 def at_random(dice):
     while True:
-        link, mode = dice.below(2), dice.below(2)
+        link, mode = dice.below(3), dice.below(2)
         sheet = any_sheet(dice, link)
         if dice.one_in(200):
-            link, mode = dice.pick([(2, 0), (0, 2), (255, 255)])
+            link, mode = dice.pick([(3, 0), (0, 2), (255, 255)])
         yield (link, mode, *some_room(dice, link, mode, sheet), sheet)
 
 

@@ -34,8 +34,8 @@ class Draft:
             self.fields.append((at, size))
 
     def ethertype(self, x):
-        if self.link == ETHERNET:
-            self.put(12, x, 2)
+        if TYPE[self.link] is not None:
+            self.put(TYPE[self.link], x, 2)
 
     def turn_a_bit(self, since=0):
         """In one of the fields put since then, if any."""
@@ -105,7 +105,7 @@ def satisfy(d, r, steps):
             d.put(net + at, under(2 ** 128 - 2 ** free, a, 128), 16)
     elif kind in ('port', 'portrange'):
         lo, hi = (n, n) if kind == 'port' else (n >> 16, n & 0xffff)
-        six = d.link == ETHERNET and dice.one_in(2)
+        six = TYPE[d.link] is not None and dice.one_in(2)
         ip(dice.pick({0: (6, 17), 5: (6,), 6: (17,), 10: (132,)}[p]), six)
         start = net + 40 if six else ipv4_transport(d.link, d.data)
         for at in sides(dice, direction, 0, 2):
@@ -116,7 +116,7 @@ def satisfy(d, r, steps):
         if name in ('ip', 'ip6', 'arp', 'rarp'):
             d.ethertype({'ip': 0x0800, 'ip6': 0x86dd, 'arp': 0x0806, 'rarp': 0x8035}[name])
         elif name in ('tcp', 'udp', 'sctp'):
-            ip({'tcp': 6, 'udp': 17, 'sctp': 132}[name], d.link == ETHERNET and dice.one_in(2))
+            ip({'tcp': 6, 'udp': 17, 'sctp': 132}[name], TYPE[d.link] is not None and dice.one_in(2))
         else:
             ip({'icmp': 1, 'igmp': 2, 'icmp6': 58}.get(name, q), name in ('icmp6', 'ip6proto'))
     elif kind in ('ipprotochain', 'ip6protochain'):

@@ -97,6 +97,7 @@ pub fn open(file: &[u8]) -> Result<Link, Refused> {
     match (status, answer) {
         (0, 0) => Ok(Link::Ethernet),
         (0, 1) => Ok(Link::RawIp),
+        (0, 2) => Ok(Link::LinuxSll),
         (0, link) => unreachable!("there is no link {link}"),
         (number, place) => Err(Refused::told(number, place)),
     }

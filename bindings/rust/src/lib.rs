@@ -31,6 +31,8 @@ pub enum Link {
     Ethernet = 0,
     /// No ethertype, network header at 0.
     RawIp = 1,
+    /// Linux's cooked header: ethertype at byte 14, network header at 16, no MAC addresses.
+    LinuxSll = 2,
 }
 
 /// How a program compares.

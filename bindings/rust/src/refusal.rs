@@ -7,7 +7,7 @@ use std::fmt;
 #[derive(Clone, Copy, Debug, PartialEq, Eq, Hash)]
 #[repr(u8)]
 pub enum Refusal {
-    /// 1: link or mode above 1. The enums of this crate have no such number.
+    /// 1: link above 2 or mode above 1. The enums of this crate have no such number.
     LinkOrMode = 1,
     /// 2: sheet length differs from what its counts ask, or a count is cut.
     Length = 2,
@@ -32,9 +32,9 @@ pub enum Refusal {
     Ethertype = 11,
     /// 12: ports with p not 0, 5, 6 or 10.
     PortProtocol = 12,
-    /// 13: EtherHost on RawIp.
+    /// 13: EtherHost on RawIp or Linux cooked.
     EtherHost = 13,
-    /// 14: EtherMulticast on RawIp.
+    /// 14: EtherMulticast on RawIp or Linux cooked.
     EtherMulticast = 14,
     /// 15: Mpls on RawIp.
     Mpls = 15,
@@ -48,7 +48,7 @@ pub enum Refusal {
     Modulo = 19,
     /// 40: unknown magic. The place, here and below, is the byte of the file where what is refused begins: 0.
     Magic = 40,
-    /// 41: other link type than 1 (Ethernet) and 101 (raw IP). The place is 20.
+    /// 41: other link type than 1 (Ethernet), 101 (raw IP) and 113 (Linux cooked). The place is 20.
     LinkType = 41,
     /// 42: file ends inside a header or record, a file below four bytes too. The place is 0 for the file's header, else the record's
     /// first byte.
@@ -61,7 +61,7 @@ pub enum Refusal {
 
 /// Every refusal with its words.
 const TEXTS: [(Refusal, &str); 24] = [
-    (Refusal::LinkOrMode, "link or mode above 1"),
+    (Refusal::LinkOrMode, "link above 2 or mode above 1"),
     (Refusal::Length, "sheet length differs from what its counts ask, or a count is cut"),
     (Refusal::WrongByte, "a code or unused byte is wrong"),
     (Refusal::NotOneTree, "tokens are not one whole tree, or primitives or steps are left over or lacking"),
@@ -73,8 +73,8 @@ const TEXTS: [(Refusal, &str); 24] = [
     (Refusal::Jump, "jump distance above 32767"),
     (Refusal::Ethertype, "ethertype on RawIp other than 0x0800"),
     (Refusal::PortProtocol, "ports with p not 0, 5, 6 or 10"),
-    (Refusal::EtherHost, "EtherHost on RawIp"),
-    (Refusal::EtherMulticast, "EtherMulticast on RawIp"),
+    (Refusal::EtherHost, "EtherHost on RawIp or Linux cooked"),
+    (Refusal::EtherMulticast, "EtherMulticast on RawIp or Linux cooked"),
     (Refusal::Mpls, "Mpls on RawIp"),
     (Refusal::Direction, "Inbound, Outbound"),
     (Refusal::Load, "comparison with a load"),

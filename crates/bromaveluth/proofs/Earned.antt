@@ -7,7 +7,9 @@ use native.Mathlib.Omega.{arith}
 use lib.Dec.{eqb}
 use Rattle.filter.specs.Record.{stepAt}
 use Rattle.filter.specs.declared.ast.LinkType.{LinkType}
-use Rattle.filter.specs.declared.ast.LinkType.the-variants.{Ethernet, RawIp}
+use Rattle.filter.specs.declared.ast.EtherOffset.{EtherOffset}
+use Rattle.filter.specs.declared.ast.EtherOffset.the-variants.{At, Nowhere}
+use Rattle.filter.specs.Ast.{etherProtoOffset, hasMacs}
 use Rattle.filter.specs.declared.ast.Proto as p
 use Rattle.filter.specs.declared.ast.Proto.the-variants.{Ip, Ip6, Arp, Rarp, Tcp, Udp, Icmp, Icmp6, Igmp, Sctp, Num, Ip6Proto}
 use Rattle.filter.specs.declared.ast.MaybeProto.{MaybeProto}
@@ -19,7 +21,7 @@ use Rattle.filter.specs.declared.ast.CmpRhs.the-variants.{Const, Load}
 use Rattle.filter.specs.declared.ast.ByteAccess as access
 use Rattle.filter.specs.declared.ast.Primitive.{Primitive}
 use Rattle.filter.specs.declared.ast.Primitive.the-variants.{Host, Host6, Port, PortRange, Net, Net6, Proto, EtherHost, EtherProto, EtherMulticast, IpBroadcast, IpMulticast, Ip6Multicast, Vlan, Mpls, PppoeDiscovery, PppoeSession, IpProtoChain, Ip6ProtoChain, Len, Inbound, Outbound, ByteAccess}
-use Rattle.checks.specs.Refusal.{onRaw, etherRefusal, protoRefusal, l4Refusal, portRefusal, opRefusal, stepRefusal, stepsRefusal, rhsRefusal, accessRefusal, refusal}
+use Rattle.checks.specs.Refusal.{etherless, unlessEther, unlessMacs, etherRefusal, protoRefusal, l4Refusal, portRefusal, opRefusal, stepRefusal, stepsRefusal, rhsRefusal, accessRefusal, refusal}
 
 -- What holds of both sides of a choice, each under its test, holds of the choice.
 pub either : {A : Type 0} (P : A → Type 0) (b : Bool) (x y : A) → (b ≡ true → P x) → (b ≡ false → P y) → P (cond b x y)
@@ -29,14 +31,21 @@ either P false x y p q = q refl
 abbrev pub Most : ℕ → Type 0
 Most n = n ≤ 19
 
-on-raw : (link : LinkType) (n : ℕ) → Most n → Most (onRaw link n)
-unfolding onRaw
-on-raw Ethernet n h = omega arith
-on-raw RawIp n h = h
+without-ether : (link : LinkType) (n : ℕ) → Most n → Most (unlessEther link n)
+unfolding unlessEther
+without-ether link n h = go (etherProtoOffset link)
+  where
+    go : (e : EtherOffset) → Most (etherless e n)
+    go (At off) = omega arith
+    go Nowhere = h
+
+without-macs : (link : LinkType) (n : ℕ) → Most n → Most (unlessMacs link n)
+unfolding unlessMacs
+without-macs link n h = either Most (hasMacs link) 0 n (λ e. omega arith) (λ e. h)
 
 ether : (link : LinkType) (et : ℕ) → Most (etherRefusal link et)
 unfolding etherRefusal
-ether link et = either Most (eqb et 0x0800) 0 (onRaw link 11) (λ e. omega arith) (λ e. on-raw link 11 (omega arith))
+ether link et = either Most (eqb et 0x0800) 0 (unlessEther link 11) (λ e. omega arith) (λ e. without-ether link 11 (omega arith))
 
 proto : (link : LinkType) (x : p.Proto) → Most (protoRefusal link x)
 unfolding protoRefusal
@@ -114,14 +123,14 @@ at-most link steps from (PortRange lo hi dir x) = port x
 at-most link steps from (Net net dir) = omega arith
 at-most link steps from (Net6 net dir) = ether link 0x86dd
 at-most link steps from (Proto x) = proto link x
-at-most link steps from (EtherHost addr dir) = on-raw link 13 (omega arith)
+at-most link steps from (EtherHost addr dir) = without-macs link 13 (omega arith)
 at-most link steps from (EtherProto et) = ether link et
-at-most link steps from EtherMulticast = on-raw link 14 (omega arith)
+at-most link steps from EtherMulticast = without-macs link 14 (omega arith)
 at-most link steps from IpBroadcast = omega arith
 at-most link steps from IpMulticast = omega arith
 at-most link steps from Ip6Multicast = ether link 0x86dd
 at-most link steps from (Vlan id) = ether link 0x8100
-at-most link steps from (Mpls label) = on-raw link 15 (omega arith)
+at-most link steps from (Mpls label) = without-ether link 15 (omega arith)
 at-most link steps from PppoeDiscovery = ether link 0x8863
 at-most link steps from (PppoeSession id) = ether link 0x8864
 at-most link steps from (IpProtoChain n) = omega arith

@@ -101,7 +101,7 @@ sections link s Wrong = (omega arith, omega arith)
 pub checks : (s : List ℕ) (link : ℕ) → Checks (checkOf s link)
 unfolding checkOf
 checks s link =
-    either Checks (ltb 1 link) (checked.Refused 1 0) (checkSections (linkOf link) s (sectionsOf s)) (λ e. (omega arith, omega arith)) (λ e. sections (linkOf link) s (sectionsOf s))
+    either Checks (ltb 2 link) (checked.Refused 1 0) (checkSections (linkOf link) s (sectionsOf s)) (λ e. (omega arith, omega arith)) (λ e. sections (linkOf link) s (sectionsOf s))
 
 -- Refusals 7 and 8.
 of-checked : (k : Checked) → Checks k → (s : List ℕ) (link : ℕ) → Measures (measured k s link)

@@ -8,14 +8,15 @@ use borrow.Author.Tests.{ltb-true, ltb-false, eqb-true}
 use lib.Dec.{eqb, ltb}
 use lib.ListN.{getD, take}
 use Rattle.filter.specs.Bytes.{be2}
-use Rattle.filter.specs.Ast.{linkOf}
+use Rattle.filter.specs.Ast.{linkOf, etherProtoOffset}
 use Rattle.filter.specs.First.{first}
 use Rattle.filter.specs.Record.{accessAt, hostAt, host6At, portAt, rangeAt, netAt, net6At, etherHostAt, mplsAt, sessionAt, lenAt, decodeAt}
 use Rattle.filter.specs.Sheet.{sectionsOf, stepsPart, primsPart, tokensPart}
 use Rattle.filter.specs.declared.sheet.Sections.{Sections}
 use Rattle.filter.specs.declared.sheet.Sections.the-variants.{Found, Wrong}
 use Rattle.filter.specs.declared.ast.LinkType.{LinkType}
-use Rattle.filter.specs.declared.ast.LinkType.the-variants.{Ethernet, RawIp}
+use Rattle.filter.specs.declared.ast.EtherOffset.{EtherOffset}
+use Rattle.filter.specs.declared.ast.EtherOffset.the-variants.{At, Nowhere}
 use Rattle.filter.specs.declared.ast.Dir.{Dir}
 use Rattle.filter.specs.declared.ast.Dir.the-variants.{SrcOrDst, Src, Dst, SrcAndDst}
 use Rattle.filter.specs.declared.ast.Ipv6Net.{Ipv6Net}
@@ -38,7 +39,7 @@ use Rattle.filter.specs.declared.ast.Primitive.the-variants.{Host, Host6, Port,
 use Rattle.tree.specs.Tokens.{count, isJump}
 use Rattle.checks.specs.Check.{takes, stepsBefore, oneTree, complete, farOffset, shiftAt, lowestWrong, checkAccesses, checkParts, checkSections, checkOf}
 use Rattle.checks.specs.Refusal.{refusal}
-use Rattle.checks.specs.Length.{ethertypeSize, sides, clip, net6Side, l4Size, prereqSize, dualSize, protoSize, idSize, labelSize, cmpSize, swapSize, layerSize, accessSize, countOf, sizeOf, sizeAt, sizesOf, programLength}
+use Rattle.checks.specs.Length.{byEther, ethertypeSize, sides, clip, net6Side, l4Size, prereqSize, dualSize, protoSize, idSize, labelSize, cmpSize, swapSize, layerSize, accessSize, countOf, sizeOf, sizeAt, sizesOf, programLength}
 use Rattle.checks.specs.declared.check.Checked.{Checked}
 use Rattle.checks.specs.declared.check.Checked.the-variants.{Refused, Good}
 use Rattle.checks.specs.Measure.{measured, measureOf}
@@ -73,10 +74,13 @@ stepsOf Inbound = 0
 stepsOf Outbound = 0
 stepsOf (ByteAccess x) = x .steps
 
+by-ether-le : (e : EtherOffset) (n m : ℕ) {most : ℕ} → n ≤ most → m ≤ most → byEther e n m ≤ most
+by-ether-le (At off) n m h h′ = h
+by-ether-le Nowhere n m h h′ = h′
+
 eth-le : (link : LinkType) → ethertypeSize link ≤ 6
 unfolding ethertypeSize
-eth-le Ethernet = omega arith
-eth-le RawIp = omega arith
+eth-le link = by-ether-le (etherProtoOffset link) 6 0 (omega arith) (omega arith)
 
 sides-le : (dir : Dir) (n m : ℕ) → sides dir n m ≤ 2 * n + m
 unfolding sides
@@ -101,17 +105,18 @@ net6-le net = go (eqb (clip (net .«prefix_len») % 16) 0) (clip (net .«prefix_
     go true q h = omega arith
     go false q h = omega arith
 
+l4-le : (proto : MaybeProto) → l4Size proto ≤ 6
+unfolding l4Size
+l4-le NoProto = omega arith
+l4-le (SomeProto x) = omega arith
+
 prereq-le : (link : LinkType) (proto : MaybeProto) → prereqSize link proto ≤ 37
-unfolding prereqSize l4Size
-prereq-le Ethernet NoProto = omega arith
-prereq-le Ethernet (SomeProto x) = omega arith
-prereq-le RawIp NoProto = omega arith
-prereq-le RawIp (SomeProto x) = omega arith
+unfolding prereqSize
+prereq-le link proto = let h = l4-le proto in by-ether-le (etherProtoOffset link) _ _ (omega arith) (omega arith)
 
 dual-le : (link : LinkType) → dualSize link ≤ 18
 unfolding dualSize
-dual-le Ethernet = omega arith
-dual-le RawIp = omega arith
+dual-le link = by-ether-le (etherProtoOffset link) 18 5 (omega arith) (omega arith)
 
 proto-le : (link : LinkType) (x : p.Proto) → protoSize link x ≤ 18
 unfolding protoSize
@@ -309,7 +314,7 @@ good-parts link steps prims tokens a b c {x} {y} {z} =
 
 -- none of refusals 1 to 6
 pub record Taken (s : List ℕ) (link a b c : ℕ) : Type 0 where
-  pub low : link ≤ 1
+  pub low : link ≤ 2
   pub found : sectionsOf s ≡ Found a b c
   pub parts : Accepted (linkOf link) (stepsPart s a) (primsPart s a b) (tokensPart s a b c) a b c
 
@@ -321,17 +326,17 @@ moved s link {a} {b} {c} {x} {y} {z} p q r t =
 -- a sheet that is accepted, with these counts
 pub good : (s : List ℕ) (link : ℕ) {a b c : ℕ} → checkOf s link ≡ Good a b c → Taken s link a b c
 unfolding checkOf checkSections
-good s link {a} {b} {c} = on-link (ltb 1 link) refl
+good s link {a} {b} {c} = on-link (ltb 2 link) refl
   where
-    on-sections : (x : Sections) → link ≤ 1 → sectionsOf s ≡ x → checkSections (linkOf link) s x ≡ Good a b c → Taken s link a b c
+    on-sections : (x : Sections) → link ≤ 2 → sectionsOf s ≡ x → checkSections (linkOf link) s x ≡ Good a b c → Taken s link a b c
     on-sections (Found x y z) h f e =
         let g = good-parts (linkOf link) (stepsPart s x) (primsPart s x y) (tokensPart s x y z) x y z e in
         moved s link (g .1) (g .2) (g .3) (record { low = h; found = f; parts = g .0 })
     on-sections Wrong h f e = let never : _≡_ {A = ℕ} 0 1 = cc in absurd (omega arith)
 
-    on-link : (t : Bool) → ltb 1 link ≡ t → cond t (Refused 1 0) (checkSections (linkOf link) s (sectionsOf s)) ≡ Good a b c → Taken s link a b c
+    on-link : (t : Bool) → ltb 2 link ≡ t → cond t (Refused 1 0) (checkSections (linkOf link) s (sectionsOf s)) ≡ Good a b c → Taken s link a b c
     on-link true h e = let never : _≡_ {A = ℕ} 0 1 = cc in absurd (omega arith)
-    on-link false h e = on-sections (sectionsOf s) (ltb-false 1 link h) refl e
+    on-link false h e = on-sections (sectionsOf s) (ltb-false 2 link h) refl e
 
 -- an accepted sheet's L
 pub good-length : (s : List ℕ) (link : ℕ) {a b c : ℕ} → checkOf s link ≡ Good a b c

@@ -3,7 +3,7 @@ use Prim.Native.Nat.{ℕ}
 use mathlib.Core.Path.{_≡_, refl}
 use mathlib.Core.List.{List, [], _∷_, _++_}
 use Rattle.filter.specs.Bytes.{be2, be4, be6, be8}
-use Rattle.filter.specs.Ast.{linkOf, netOffset, dirOf, cmpOf, arithOf, layerOf, accessSizeOf, protoOf, maybeProtoOf}
+use Rattle.filter.specs.Ast.{linkOf, linkRecord, etherProtoOffset, netOffset, hasMacs, dirOf, cmpOf, arithOf, layerOf, accessSizeOf, protoOf, maybeProtoOf}
 use Rattle.filter.specs.First.{first, any}
 use Rattle.filter.specs.Record.{ipv6At, ipNetAt, ipv6NetAt, idAt, labelAt, loadAt, rhsAt, accessAt, dirAt, protoAt, hostAt, host6At, portAt, rangeAt, netAt, net6At, etherHostAt, mplsAt, sessionAt, lenAt, decodeAt, stepAt}
 use Rattle.filter.specs.Sheet.{stepCount, primCount, tokenCount, sectionsOf, stepsPart, primsPart, tokensPart}
@@ -12,7 +12,7 @@ use Rattle.filter.specs.declared.ast.LinkType.the-variants.{Ethernet, RawIp}
 use Rattle.tree.specs.Shape.{wanted, metBy, scan, shapeOf}
 use Rattle.tree.specs.Tokens.{count}
 use Rattle.checks.specs.Check.{wrongIn, sheetWrong, lowestWrong, takes, stepsBefore, oneTree, complete, baseOf, far, farOffset, shifts, bigShift, shiftAt, checkAccesses, checkParts, checkSections, checkOf}
-use Rattle.checks.specs.Refusal.{onRaw, etherRefusal, protoRefusal, opRefusal, stepRefusal, stepsRefusal, rhsRefusal, accessRefusal, refusal}
+use Rattle.checks.specs.Refusal.{etherless, unlessEther, unlessMacs, etherRefusal, protoRefusal, opRefusal, stepRefusal, stepsRefusal, rhsRefusal, accessRefusal, refusal}
 use Rattle.checks.specs.Length as L
 use Rattle.checks.specs.declared.check.Checked.{Checked}
 use Rattle.checks.specs.declared.check.Checked.the-variants.{Refused, Good}
@@ -47,19 +47,22 @@ Computed =
     × (checkOf (shifted 32) 0 ≡ Refused 6 0)
     × (checkOf (0 ∷ 0 ∷ 0 ∷ 0 ∷ 0 ∷ 0 ∷ []) 0 ≡ Refused 4 0)
     × (checkOf (0 ∷ 0 ∷ 0 ∷ 0 ∷ 0 ∷ []) 0 ≡ Refused 2 0)
-    × (checkOf [] 2 ≡ Refused 1 0)
+    × (checkOf (access 1 0 0 127 239) 2 ≡ Good 0 1 1)
+    × (checkOf (access 1 0 0 127 240) 2 ≡ Refused 5 0)
+    × (checkOf [] 2 ≡ Refused 2 0)
+    × (checkOf [] 3 ≡ Refused 1 0)
     × (checkOf (one (3 ∷ 0 ∷ 0 ∷ 0 ∷ 0 ∷ 1 ∷ 0 ∷ 0 ∷ [])) 0 ≡ Refused 3 9)
     × (checkOf (one (0 ∷ 0 ∷ 0 ∷ 0 ∷ 0 ∷ 0 ∷ 0 ∷ 0 ∷ [])) 0 ≡ Refused 3 4)
 
 -- K8, and the places of the readings
 pub computed : Computed
-unfolding be2 be4 be6 be8 linkOf netOffset dirOf cmpOf arithOf layerOf accessSizeOf protoOf maybeProtoOf first any ipv6At netAt net6At idAt labelAt loadAt rhsAt accessAt decodeAt stepAt stepCount primCount tokenCount sectionsOf stepsPart primsPart tokensPart qMost fieldMost optional numberMost plainMost accessMost most least wrongByte recordWrong stepWrong tokenWrong wanted metBy scan shapeOf count wrongIn sheetWrong lowestWrong takes stepsBefore oneTree complete baseOf far farOffset shifts bigShift shiftAt checkAccesses checkParts checkSections checkOf
-computed = (refl, refl, refl, refl, refl, refl, refl, refl, refl, refl, refl, refl)
+unfolding be2 be4 be6 be8 linkOf linkRecord netOffset dirOf cmpOf arithOf layerOf accessSizeOf protoOf maybeProtoOf first any ipv6At netAt net6At idAt labelAt loadAt rhsAt accessAt decodeAt stepAt stepCount primCount tokenCount sectionsOf stepsPart primsPart tokensPart qMost fieldMost optional numberMost plainMost accessMost most least wrongByte recordWrong stepWrong tokenWrong wanted metBy scan shapeOf count wrongIn sheetWrong lowestWrong takes stepsBefore oneTree complete baseOf far farOffset shifts bigShift shiftAt checkAccesses checkParts checkSections checkOf
+computed = (refl, refl, refl, refl, refl, refl, refl, refl, refl, refl, refl, refl, refl, refl, refl)
 
 -- K1, K2 and K5: Ip on RawIp and on Ethernet, and a host in either direction
 pub lengths : (L.programLength RawIp [] (7 ∷ 0 ∷ 1 ∷ 0 ∷ []) (0 ∷ []) 1 1 ≡ 6)
     × (L.programLength Ethernet [] (7 ∷ 0 ∷ 1 ∷ 0 ∷ []) (0 ∷ []) 1 1 ≡ 12)
     × (L.programLength Ethernet [] (1 ∷ 0 ∷ 0 ∷ 0 ∷ 10 ∷ 0 ∷ 0 ∷ 1 ∷ []) (0 ∷ []) 1 1 ≡ 24)
     × (L.programLength RawIp [] (21 ∷ []) (3 ∷ 0 ∷ []) 1 2 ≡ 7)
-unfolding L.ethertypeSize L.sides L.clip L.net6Side L.l4Size L.prereqSize L.dualSize L.protoSize L.idSize L.labelSize L.cmpSize L.swapSize L.layerSize L.accessSize L.countOf L.sizeOf L.sizeAt L.sizesOf L.jumpSize L.programLength be2 be4 be6 be8 dirOf cmpOf layerOf accessSizeOf protoOf maybeProtoOf accessAt dirAt protoAt hostAt decodeAt rhsAt loadAt count stepsBefore takes onRaw etherRefusal protoRefusal refusal
+unfolding L.ethertypeSize L.sides L.clip L.net6Side L.l4Size L.prereqSize L.dualSize L.protoSize L.idSize L.labelSize L.cmpSize L.swapSize L.layerSize L.accessSize L.countOf L.sizeOf L.sizeAt L.sizesOf L.jumpSize L.programLength be2 be4 be6 be8 dirOf cmpOf layerOf accessSizeOf protoOf maybeProtoOf accessAt dirAt protoAt hostAt decodeAt rhsAt loadAt count stepsBefore takes linkRecord etherProtoOffset hasMacs unlessEther unlessMacs etherRefusal protoRefusal refusal
 lengths = (refl, refl, refl, refl)

@@ -51,7 +51,7 @@ module _ {t u : Tree} (r : Regrouped t u) (link : LinkType) (steps prims : List 
 
 -- What the check of a written sheet looks at.
 written-check : (front : List ℕ) → Front front → (tokens : List ℕ) (link : ℕ) → checkOf (written front tokens) link
-    ≡ cond (ltb 1 link) (Refused 1 0)
+    ≡ cond (ltb 2 link) (Refused 1 0)
     (checkParts (linkOf link) (stepsPart front (stepCount front)) (primsPart front (stepCount front) (primCount front)) tokens
     (stepCount front) (primCount front) (length tokens))
 unfolding checkOf checkSections
@@ -63,8 +63,8 @@ pub check-regroups : (front : List ℕ) → Front front → {t u : Tree} → Reg
     → checkOf (written front (flat t)) link ≡ checkOf (written front (flat u)) link
 check-regroups front whole {t} {u} r link =
     written-check front whole (flat t) link
-    ∙ ap (λ (n : ℕ). cond (ltb 1 link) (Refused 1 0) (checkParts (linkOf link) steps prims (flat t) (stepCount front) (primCount front) n)) (same-tokens r)
-    ∙ ap (λ (x : Checked). cond (ltb 1 link) (Refused 1 0) x) (parts-regroup r (linkOf link) steps prims (stepCount front) (primCount front) (length (flat u)))
+    ∙ ap (λ (n : ℕ). cond (ltb 2 link) (Refused 1 0) (checkParts (linkOf link) steps prims (flat t) (stepCount front) (primCount front) n)) (same-tokens r)
+    ∙ ap (λ (x : Checked). cond (ltb 2 link) (Refused 1 0) x) (parts-regroup r (linkOf link) steps prims (stepCount front) (primCount front) (length (flat u)))
     ∙ sym (written-check front whole (flat u) link)
   where
     steps : List ℕ

@@ -133,7 +133,7 @@ sorted-whole s {a} {b} {c} t =
 
 -- what refusals 1 to 6 still look at in such a sheet
 pub sorted-check : (s : List ℕ) {a b c : ℕ} → Sorted s a b c → (link : ℕ)
-    → checkOf s link ≡ cond (ltb 1 link) (Refused 1 0) (checkAccesses (linkOf link) (stepsPart s a) (primsPart s a b) a b c)
+    → checkOf s link ≡ cond (ltb 2 link) (Refused 1 0) (checkAccesses (linkOf link) (stepsPart s a) (primsPart s a b) a b c)
 unfolding checkOf checkSections checkParts
 sorted-check s {a} {b} {c} t link =
     rw (t .found, goes-on (stepsPart s a) (primsPart s a b) (tokensPart s a b c) a b c (t .parts) (checkAccesses (linkOf link) (stepsPart s a) (primsPart s a b) a b c))

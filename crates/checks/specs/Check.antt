@@ -123,10 +123,10 @@ wholeSections s Wrong = Refused 2 0
 unfoldable pub wholeOf : List ℕ → Checked
 wholeOf s = wholeSections s (sectionsOf s)
 
--- Refusal 1: "link .. above 1"
+-- Refusal 1: "a link above 2"
 unfoldable pub checkOf : List ℕ → ℕ → Checked
-checkOf s link = cond (ltb 1 link) (Refused 1 0) (checkSections (linkOf link) s (sectionsOf s))
+checkOf s link = cond (ltb 2 link) (Refused 1 0) (checkSections (linkOf link) s (sectionsOf s))
 
--- Refusal 1: "link or mode above 1"
+-- Refusal 1: "a link above 2 or a mode above 1"
 unfoldable pub checkModeOf : List ℕ → ℕ → ℕ → Checked
 checkModeOf s link mode = cond (ltb 1 mode) (Refused 1 0) (checkOf s link)

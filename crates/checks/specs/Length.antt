@@ -5,9 +5,11 @@ use mathlib.Core.List.{List}
 use mathlib.Core.Bool.{cond}
 use lib.Dec.{eqb, ltb}
 use lib.ListN.{take}
+use Rattle.filter.specs.Ast.{etherProtoOffset}
 use Rattle.filter.specs.Record.{decodeAt}
 use Rattle.filter.specs.declared.ast.LinkType.{LinkType}
-use Rattle.filter.specs.declared.ast.LinkType.the-variants.{Ethernet, RawIp}
+use Rattle.filter.specs.declared.ast.EtherOffset.{EtherOffset}
+use Rattle.filter.specs.declared.ast.EtherOffset.the-variants.{At, Nowhere}
 use Rattle.filter.specs.declared.ast.Dir.{Dir}
 use Rattle.filter.specs.declared.ast.Dir.the-variants.{SrcOrDst, Src, Dst, SrcAndDst}
 use Rattle.filter.specs.declared.ast.Ipv6Net.{Ipv6Net}
@@ -32,10 +34,14 @@ use Rattle.tree.specs.Tokens.{count, isJump}
 use Rattle.checks.specs.Check.{stepsBefore}
 use Rattle.checks.specs.Refusal.{refusal}
 
+-- one number for a link with an ethertype, another for one without
+abbrev pub byEther : EtherOffset → ℕ → ℕ → ℕ
+byEther (At off) n m = n
+byEther Nowhere n m = m
+
 -- emit_ethertype: a half checked, 5 + 1; "RawIp emits nothing for ethertype 0x0800", and refuses the others
 unfoldable pub ethertypeSize : LinkType → ℕ
-ethertypeSize Ethernet = 6
-ethertypeSize RawIp = 0
+ethertypeSize link = byEther (etherProtoOffset link) 6 0
 
 -- n instructions for a side; for either, some have a JA between the two
 unfoldable pub sides : Dir → ℕ → ℕ → ℕ
@@ -59,15 +65,13 @@ unfoldable pub l4Size : MaybeProto → ℕ
 l4Size NoProto = 6
 l4Size (SomeProto x) = 5
 
--- emit_port_prereqs: IPv4's part is the protocol check and 12 more (4 load, 5 to R6, 3 guard); Ethernet has 7 before, and IPv6's part of the check, 5 and a JA
+-- emit_port_prereqs: IPv4's part is the protocol check and 12 more (4 load, 5 to R6, 3 guard); with an ethertype 7 before, and IPv6's part of the check, 5 and a JA
 unfoldable pub prereqSize : LinkType → MaybeProto → ℕ
-prereqSize Ethernet proto = 2 * l4Size proto + 25
-prereqSize RawIp proto = l4Size proto + 12
+prereqSize link proto = byEther (etherProtoOffset link) (2 * l4Size proto + 25) (l4Size proto + 12)
 
--- emit_dual_l4: 5 + 2, a byte checked (5), a JA, a byte checked (5); RawIp has the last only
+-- emit_dual_l4: 5 + 2, a byte checked (5), a JA, a byte checked (5); without an ethertype the last only
 unfoldable pub dualSize : LinkType → ℕ
-dualSize Ethernet = 18
-dualSize RawIp = 5
+dualSize link = byEther (etherProtoOffset link) 18 5
 
 -- emit_proto: ethertypes alone, dual-stack protocols, and emit_ip4_l4 and emit_ip6_l4, which check a byte after the ethertype
 unfoldable pub protoSize : LinkType → p.Proto → ℕ

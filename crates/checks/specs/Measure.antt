@@ -26,6 +26,6 @@ roomed (Refused number place) output work = Refused number place
 roomed (Length a b c l) output work =
     cond (ltb output (8 * l)) (Refused 7 0) (cond (ltb work (l + 8 * c)) (Refused 8 0) (Length a b c l))
 
--- Refusals 1 to 8, in order: "link or mode above 1" comes first
+-- Refusals 1 to 8, in order: "a link above 2 or a mode above 1" comes first
 unfoldable pub admitOf : List ℕ → ℕ → ℕ → ℕ → ℕ → Measured
 admitOf s link mode output work = cond (ltb 1 mode) (Refused 1 0) (roomed (measureOf s link) output work)

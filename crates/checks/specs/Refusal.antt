@@ -3,10 +3,12 @@ use Prim.Native.Nat.{ℕ, zero, suc, _*_}
 use mathlib.Core.List.{List}
 use mathlib.Core.Bool.{cond}
 use lib.Dec.{eqb}
+use Rattle.filter.specs.Ast.{etherProtoOffset, hasMacs}
 use Rattle.filter.specs.Record.{stepAt, decodeAt}
 use Rattle.checks.specs.Check.{stepsBefore}
 use Rattle.filter.specs.declared.ast.LinkType.{LinkType}
-use Rattle.filter.specs.declared.ast.LinkType.the-variants.{Ethernet, RawIp}
+use Rattle.filter.specs.declared.ast.EtherOffset.{EtherOffset}
+use Rattle.filter.specs.declared.ast.EtherOffset.the-variants.{At, Nowhere}
 use Rattle.filter.specs.declared.ast.Proto as p
 use Rattle.filter.specs.declared.ast.Proto.the-variants.{Ip, Ip6, Arp, Rarp, Tcp, Udp, Icmp, Icmp6, Igmp, Sctp, Num, Ip6Proto}
 use Rattle.filter.specs.declared.ast.MaybeProto.{MaybeProto}
@@ -19,14 +21,21 @@ use Rattle.filter.specs.declared.ast.ByteAccess as access
 use Rattle.filter.specs.declared.ast.Primitive.{Primitive}
 use Rattle.filter.specs.declared.ast.Primitive.the-variants.{Host, Host6, Port, PortRange, Net, Net6, Proto, EtherHost, EtherProto, EtherMulticast, IpBroadcast, IpMulticast, Ip6Multicast, Vlan, Mpls, PppoeDiscovery, PppoeSession, IpProtoChain, Ip6ProtoChain, Len, Inbound, Outbound, ByteAccess}
 
--- what is refused on RawIp only
-unfoldable pub onRaw : LinkType → ℕ → ℕ
-onRaw Ethernet n = 0
-onRaw RawIp n = n
+-- 11 and 15, "on RawIp": what is refused where the link has no ethertype
+abbrev pub etherless : EtherOffset → ℕ → ℕ
+etherless (At off) n = 0
+etherless Nowhere n = n
+
+unfoldable pub unlessEther : LinkType → ℕ → ℕ
+unlessEther link n = etherless (etherProtoOffset link) n
+
+-- "13 and 14 are also given on link 2": what is refused where the link has no MAC addresses
+unfoldable pub unlessMacs : LinkType → ℕ → ℕ
+unlessMacs link n = cond (hasMacs link) 0 n
 
 -- 11: "ethertype on RawIp other than 0x0800"
 unfoldable pub etherRefusal : LinkType → ℕ → ℕ
-etherRefusal link et = cond (eqb et 0x0800) 0 (onRaw link 11)
+etherRefusal link et = cond (eqb et 0x0800) 0 (unlessEther link 11)
 
 -- "tcp 6, udp 17, sctp 132: IPv4 or IPv6 (RawIp: IPv4 only). Icmp 1, Igmp 2, Num: IPv4. Icmp6 58, Ip6Proto: IPv6"
 unfoldable pub protoRefusal : LinkType → p.Proto → ℕ
@@ -101,14 +110,14 @@ refusal link steps from (PortRange lo hi dir proto) = portRefusal proto
 refusal link steps from (Net net dir) = 0
 refusal link steps from (Net6 net dir) = etherRefusal link 0x86dd
 refusal link steps from (Proto x) = protoRefusal link x
-refusal link steps from (EtherHost addr dir) = onRaw link 13
+refusal link steps from (EtherHost addr dir) = unlessMacs link 13
 refusal link steps from (EtherProto et) = etherRefusal link et
-refusal link steps from EtherMulticast = onRaw link 14
+refusal link steps from EtherMulticast = unlessMacs link 14
 refusal link steps from IpBroadcast = 0
 refusal link steps from IpMulticast = 0
 refusal link steps from Ip6Multicast = etherRefusal link 0x86dd
 refusal link steps from (Vlan id) = etherRefusal link 0x8100
-refusal link steps from (Mpls label) = onRaw link 15
+refusal link steps from (Mpls label) = unlessEther link 15
 refusal link steps from PppoeDiscovery = etherRefusal link 0x8863
 refusal link steps from (PppoeSession id) = etherRefusal link 0x8864
 refusal link steps from (IpProtoChain n) = 0

@@ -76,7 +76,7 @@ pub fn is_complete(prims: &[u8], tokens: &[u8], a: u16, b: u16) -> bool
 }
 
 fn base_of(link: LinkType, layer: Layer) -> u32
-    ensures { λ r. ⌜ (r ≡ baseOf link layer) × (r < 15) ⌝ }
+    ensures { λ r. ⌜ (r ≡ baseOf link layer) × (r ≤ 16) ⌝ }
 {
     match layer {
         Layer::Raw => 0,
@@ -342,7 +342,7 @@ pub fn check_whole(sheet: &[u8]) -> Checked
 pub fn check_sheet(sheet: &[u8], link: u8) -> Checked
     ensures { λ r. ⌜ r ≡ checkOf (now (sheet .entry)) link ⌝ }
 {
-    if 1 < link {
+    if 2 < link {
         return Checked::Refused {
             number: 1,
             place: 0,

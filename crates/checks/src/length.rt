@@ -5,6 +5,7 @@ use filter::ast::AccessSize;
 use filter::ast::ByteAccess;
 use filter::ast::CmpOp;
 use filter::ast::Dir;
+use filter::ast::EtherOffset;
 use filter::ast::Ipv6Net;
 use filter::ast::Layer;
 use filter::ast::LinkType;
@@ -13,6 +14,7 @@ use filter::ast::MaybeLabel;
 use filter::ast::MaybeProto;
 use filter::ast::Primitive;
 use filter::ast::Proto;
+use filter::ast::ether_proto_offset;
 use filter::bytes::token_at;
 use filter::record::primitive_at;
 ghost use mathlib.Core.Path.{_≡_};
@@ -26,9 +28,9 @@ ghost use Rattle.checks.specs.Length.{ethertypeSize, sides, clip, net6Si
 fn ethertype_size(link: LinkType) -> u32
     ensures { λ r. ⌜ (r ≡ ethertypeSize link) × (r ≤ 6) ⌝ }
 {
-    match link {
-        LinkType::Ethernet => 6,
-        LinkType::RawIp => 0,
+    match ether_proto_offset(link) {
+        EtherOffset::At(_) => 6,
+        EtherOffset::Nowhere => 0,
     }
 }
 
@@ -71,18 +73,18 @@ fn prereq_size(link: LinkType, proto: MaybeProto) -> u32
     ensures { λ r. ⌜ (r ≡ prereqSize link proto) × (r ≤ 37) ⌝ }
 {
     let n = l4_size(proto);
-    match link {
-        LinkType::Ethernet => 2 * n + 25,
-        LinkType::RawIp => n + 12,
+    match ether_proto_offset(link) {
+        EtherOffset::At(_) => 2 * n + 25,
+        EtherOffset::Nowhere => n + 12,
     }
 }
 
 fn dual_size(link: LinkType) -> u32
     ensures { λ r. ⌜ r ≡ dualSize link ⌝ }
 {
-    match link {
-        LinkType::Ethernet => 18,
-        LinkType::RawIp => 5,
+    match ether_proto_offset(link) {
+        EtherOffset::At(_) => 18,
+        EtherOffset::Nowhere => 5,
     }
 }
 

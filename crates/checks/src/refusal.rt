@@ -2,29 +2,42 @@
 use filter::ast::ArithOp;
 use filter::ast::ByteAccess;
 use filter::ast::CmpRhs;
+use filter::ast::EtherOffset;
 use filter::ast::LinkType;
 use filter::ast::MaybeProto;
 use filter::ast::Primitive;
 use filter::ast::Proto;
+use filter::ast::ether_proto_offset;
+use filter::ast::has_macs;
 use filter::record::step_at;
 ghost use mathlib.Core.Path.{_≡_};
 ghost use Prim.Native.Nat.{_+_, _*_};
 ghost use Rattle.filter.specs.Record.{stepAt};
-ghost use Rattle.checks.specs.Refusal.{onRaw, etherRefusal, protoRefusal, l4Refusal, portRefusal, opRefusal, stepRefusal, stepsRefusal, accessRefusal, refusal};
+ghost use Rattle.checks.specs.Refusal.{unlessEther, unlessMacs, etherRefusal, protoRefusal, l4Refusal, portRefusal, opRefusal, stepRefusal, stepsRefusal, accessRefusal, refusal};
 
-fn on_raw(link: LinkType, n: u8) -> u8
-    ensures { λ r. ⌜ r ≡ onRaw link n ⌝ }
+fn unless_ether(link: LinkType, n: u8) -> u8
+    ensures { λ r. ⌜ r ≡ unlessEther link n ⌝ }
 {
-    match link {
-        LinkType::Ethernet => 0,
-        LinkType::RawIp => n,
+    match ether_proto_offset(link) {
+        EtherOffset::At(_) => 0,
+        EtherOffset::Nowhere => n,
     }
+}
+
+fn unless_macs(link: LinkType, n: u8) -> u8
+    ensures { λ r. ⌜ r ≡ unlessMacs link n ⌝ }
+{
+    if has_macs(link) { 0 } else { n }
 }
 
 fn ether_refusal(link: LinkType, et: u16) -> u8
     ensures { λ r. ⌜ r ≡ etherRefusal link et ⌝ }
 {
-    if et == 0x0800 { 0 } else { on_raw(link, 11) }
+    if et == 0x0800 {
+        0
+    } else {
+        unless_ether(link, 11)
+    }
 }
 
 fn proto_refusal(link: LinkType, proto: Proto) -> u8
@@ -145,14 +158,14 @@ pub fn refusal_of(link: LinkType, steps: &[u8], from: u32, prim: Primitive) -> u
         Primitive::Net { net: _, dir: _ } => 0,
         Primitive::Net6 { net: _, dir: _ } => ether_refusal(link, 0x86dd),
         Primitive::Proto(p) => proto_refusal(link, p),
-        Primitive::EtherHost { addr: _, dir: _ } => on_raw(link, 13),
+        Primitive::EtherHost { addr: _, dir: _ } => unless_macs(link, 13),
         Primitive::EtherProto(et) => ether_refusal(link, et),
-        Primitive::EtherMulticast => on_raw(link, 14),
+        Primitive::EtherMulticast => unless_macs(link, 14),
         Primitive::IpBroadcast => 0,
         Primitive::IpMulticast => 0,
         Primitive::Ip6Multicast => ether_refusal(link, 0x86dd),
         Primitive::Vlan { id: _ } => ether_refusal(link, 0x8100),
-        Primitive::Mpls { label: _ } => on_raw(link, 15),
+        Primitive::Mpls { label: _ } => unless_ether(link, 15),
         Primitive::PppoeDiscovery => ether_refusal(link, 0x8863),
         Primitive::PppoeSession { session_id: _ } => ether_refusal(link, 0x8864),
         Primitive::IpProtoChain(_) => 0,

@@ -8,9 +8,7 @@ use borrow.Author.Tests.{le-leb, lt-leb, ne-eqb}
 use lib.ListN.{length, length-append}
 use Rattle.patches.specs.declared.Patches.{Patches}
 use Rattle.patches.specs.Code.{Slot, em, block}
-use Rattle.filter.specs.Ast.{netOffset}
 use Rattle.filter.specs.declared.ast.LinkType.{LinkType}
-use Rattle.filter.specs.declared.ast.LinkType.the-variants.{Ethernet, RawIp}
 use Rattle.filter.specs.declared.ast.Ipv6Addr.{Ipv6Addr}
 use Rattle.filter.specs.declared.ast.Dir.{Dir}
 use Rattle.filter.specs.declared.ast.Dir.the-variants.{SrcOrDst, Src, Dst, SrcAndDst}
@@ -216,9 +214,3 @@ module _ (dir : Dir) (part : ℕ → List Slot) (n : ℕ) (size : length (part 0
               out-len = ol ∙ v .out-len;
               work-len = wl ∙ v .work-len;
             }
-
--- The network header starts within 14 bytes.
-pub net-low : (link : LinkType) → netOffset link ≤ 14
-unfolding netOffset
-net-low Ethernet = omega arith
-net-low RawIp = omega arith

@@ -10,13 +10,14 @@ use lib.ListN.{length, length-append}
 use lib.Dec.{eqb, leb, ltb}
 use Rattle.patches.specs.Code.{Slot}
 use Rattle.pieces.proofs.Leading.{settled-length}
-use Rattle.pieces.specs.Fragments.{one-of, sides, guard, load, emit-load, emit-steps, transport, fails, skips, succeeds, check, emit-cmp, emit-ethertype, emit-ip4-l4, emit-ip6-l4, emit-dual-l4}
-use Rattle.codegen.specs.Primitives.{check-word-at, check-addr4, emit-host4, emit-net, check-segment, check-net6, emit-net6, emit-l4-proto-check, prereqs-v6, prereqs-v4, emit-port-prereqs, check-port, check-ports, emit-port, check-range, emit-portrange, check-mac, emit-ether-host, emit-ether-multicast, emit-ip-broadcast, emit-ip-multicast, emit-ip6-multicast, emit-vlan, emit-mpls, emit-pppoe-session, emit-len, emit-proto, steps-and-cmp, access-at, access-rhs, emit-byte-access, emit-primitive, mirrored}
+use Rattle.pieces.specs.Fragments.{one-of, sides, guard, load, emit-load, emit-steps, transport, fails, skips, succeeds, check, emit-cmp, ethertype-at, emit-ethertype, emit-ip4-l4, emit-ip6-l4, dual-at, emit-dual-l4}
+use Rattle.codegen.specs.Primitives.{check-word-at, check-addr4, emit-host4, emit-net, check-segment, check-net6, emit-net6, emit-l4-proto-check, prereqs-v6, prereqs-v4, prereqs-at, emit-port-prereqs, check-port, check-ports, emit-port, check-range, emit-portrange, check-mac, emit-ether-host, emit-ether-multicast, emit-ip-broadcast, emit-ip-multicast, emit-ip6-multicast, vlan-id, emit-vlan, mpls-at, emit-mpls, session-id, emit-pppoe-session, emit-len, emit-proto, steps-and-cmp, access-at, access-rhs, emit-byte-access, emit-primitive, mirrored}
 use Rattle.checks.specs.Length as count
-use Rattle.checks.specs.Refusal.{refusal, onRaw, etherRefusal, stepsRefusal, accessRefusal, rhsRefusal}
+use Rattle.checks.specs.Refusal.{refusal, etherless, unlessEther, etherRefusal, stepsRefusal, accessRefusal, rhsRefusal}
 use Rattle.filter.specs.Ast.{etherProtoOffset}
 use Rattle.filter.specs.declared.ast.LinkType.{LinkType}
-use Rattle.filter.specs.declared.ast.LinkType.the-variants.{Ethernet, RawIp}
+use Rattle.filter.specs.declared.ast.EtherOffset.{EtherOffset}
+use Rattle.filter.specs.declared.ast.EtherOffset.the-variants.{At, Nowhere}
 use Rattle.filter.specs.declared.ast.Dir.{Dir}
 use Rattle.filter.specs.declared.ast.Dir.the-variants.{SrcOrDst, Src, Dst, SrcAndDst}
 use Rattle.filter.specs.declared.ast.Ipv6Addr.{Ipv6Addr}
@@ -84,9 +85,12 @@ share-part r s e h k =
 
 module _ (mode : ℕ) where
   ethertype-length : (link : LinkType) (et : ℕ) → length (emit-ethertype mode link et) ≡ count.ethertypeSize link
-  unfolding emit-ethertype etherProtoOffset check emit-load guard load fails count.ethertypeSize
-  ethertype-length Ethernet et = refl
-  ethertype-length RawIp et = refl
+  unfolding emit-ethertype check emit-load guard load fails count.ethertypeSize
+  ethertype-length link et = go (etherProtoOffset link)
+    where
+      go : (e : EtherOffset) → length (ethertype-at mode e et) ≡ count.byEther e 6 0
+      go (At off) = refl
+      go Nowhere = refl
 
   -- What comes after the ethertype.
   after-ethertype : (link : LinkType) (et n : ℕ) (xs : List Slot) → length xs ≡ n
@@ -188,11 +192,15 @@ module _ (mode : ℕ) where
   host6-length link addr dir = after-ethertype link _ _ _ (sides-length dir _ _ _ (host6-side link addr _) (host6-side link addr _))
 
   prereqs-length : (link : LinkType) (proto : MaybeProto) → length (emit-port-prereqs mode link proto) ≡ count.prereqSize link proto
-  unfolding emit-port-prereqs prereqs-v4 prereqs-v6 emit-l4-proto-check etherProtoOffset transport check emit-load guard load fails skips count.prereqSize count.l4Size
-  prereqs-length Ethernet NoProto = refl
-  prereqs-length Ethernet (SomeProto x) = refl
-  prereqs-length RawIp NoProto = refl
-  prereqs-length RawIp (SomeProto x) = refl
+  unfolding emit-port-prereqs prereqs-v4 prereqs-v6 emit-l4-proto-check transport check emit-load guard load fails skips count.prereqSize count.l4Size
+  prereqs-length link proto = go (etherProtoOffset link) proto
+    where
+      go : (e : EtherOffset) (proto : MaybeProto)
+          → length (prereqs-at mode link e proto) ≡ count.byEther e (2 * count.l4Size proto + 25) (count.l4Size proto + 12)
+      go (At off) NoProto = refl
+      go (At off) (SomeProto x) = refl
+      go Nowhere NoProto = refl
+      go Nowhere (SomeProto x) = refl
 
   ports-length : (link : LinkType) (port : ℕ) (dir : Dir) → length (check-ports mode link port dir) ≡ count.sides dir 3 0
   unfolding check-ports check-port load fails succeeds count.sides
@@ -234,9 +242,12 @@ module _ (mode : ℕ) where
       sides-length (mirrored dir) _ _ 12 (mac-length link 0 addr) (mac-length link 6 addr) ∙ mirrored-sides dir 12 1
 
   dual-length : (link : LinkType) (p : ℕ) → length (emit-dual-l4 mode link p) ≡ count.dualSize link
-  unfolding emit-dual-l4 emit-ip4-l4 emit-ethertype etherProtoOffset check emit-load guard load fails skips count.dualSize
-  dual-length Ethernet p = refl
-  dual-length RawIp p = refl
+  unfolding emit-dual-l4 emit-ip4-l4 emit-ethertype check emit-load guard load fails skips count.dualSize
+  dual-length link p = go (etherProtoOffset link) refl
+    where
+      go : (e : EtherOffset) → etherProtoOffset link ≡ e → length (dual-at mode e link p) ≡ count.byEther e 18 5
+      go (At off) q = refl
+      go Nowhere q = rw q
 
   check-length : (off k : ℕ) → length (check mode Byte off k) ≡ 5
   unfolding check emit-load guard load fails
@@ -265,24 +276,33 @@ module _ (mode : ℕ) where
   proto-length link (Num n) = ip4-length link _
   proto-length link (Ip6Proto n) = ip6-length link _
 
-  -- On RawIp these three are refused.
+  -- Where there is no ethertype these three are refused.
   vlan-length : (link : LinkType) (id : MaybeId) → etherRefusal link 0x8100 ≡ 0 → length (emit-vlan mode link id) ≡ count.ethertypeSize link + count.idSize id 7
-  unfolding emit-vlan etherProtoOffset emit-load guard load fails count.idSize etherRefusal onRaw
-  vlan-length Ethernet NoId e = after-ethertype Ethernet _ _ _ refl
-  vlan-length Ethernet (SomeId id) e = after-ethertype Ethernet _ _ _ refl
-  vlan-length RawIp id e = absurd (omega arith)
+  unfolding emit-vlan emit-load guard load fails count.idSize etherRefusal unlessEther
+  vlan-length link id r = after-ethertype link _ _ _ (go (etherProtoOffset link) id r)
+    where
+      go : (e : EtherOffset) (id : MaybeId) → etherless e 11 ≡ 0 → length (vlan-id mode link e id) ≡ count.idSize id 7
+      go (At off) NoId r = refl
+      go (At off) (SomeId n) r = refl
+      go Nowhere id r = absurd (omega arith)
 
   pppoe-length : (link : LinkType) (id : MaybeId) → etherRefusal link 0x8864 ≡ 0 → length (emit-pppoe-session mode link id) ≡ count.ethertypeSize link + count.idSize id 6
-  unfolding emit-pppoe-session etherProtoOffset check emit-load guard load fails count.idSize etherRefusal onRaw
-  pppoe-length Ethernet NoId e = after-ethertype Ethernet _ _ _ refl
-  pppoe-length Ethernet (SomeId id) e = after-ethertype Ethernet _ _ _ refl
-  pppoe-length RawIp id e = absurd (omega arith)
+  unfolding emit-pppoe-session check emit-load guard load fails count.idSize etherRefusal unlessEther
+  pppoe-length link id r = after-ethertype link _ _ _ (go (etherProtoOffset link) id r)
+    where
+      go : (e : EtherOffset) (id : MaybeId) → etherless e 11 ≡ 0 → length (session-id mode link e id) ≡ count.idSize id 6
+      go (At off) NoId r = refl
+      go (At off) (SomeId n) r = refl
+      go Nowhere id r = absurd (omega arith)
 
-  mpls-length : (link : LinkType) (label : MaybeLabel) → onRaw link 15 ≡ 0 → length (emit-mpls mode link label) ≡ 7 + count.labelSize label
-  unfolding emit-mpls etherProtoOffset emit-load guard load fails skips count.labelSize onRaw
-  mpls-length Ethernet NoLabel e = refl
-  mpls-length Ethernet (SomeLabel n) e = refl
-  mpls-length RawIp label e = absurd (omega arith)
+  mpls-length : (link : LinkType) (label : MaybeLabel) → unlessEther link 15 ≡ 0 → length (emit-mpls mode link label) ≡ 7 + count.labelSize label
+  unfolding emit-mpls emit-load guard load fails skips count.labelSize unlessEther
+  mpls-length link label r = go (etherProtoOffset link) label r
+    where
+      go : (e : EtherOffset) (label : MaybeLabel) → etherless e 15 ≡ 0 → length (mpls-at mode link e label) ≡ 7 + count.labelSize label
+      go (At off) NoLabel r = refl
+      go (At off) (SomeLabel n) r = refl
+      go Nowhere label r = absurd (omega arith)
 
   multicast-length : (link : LinkType) → length (emit-ether-multicast mode link) ≡ 6
   unfolding emit-ether-multicast emit-load guard load skips

@@ -1,3 +1,4 @@
+pub mod Links
 pub mod Firsts
 pub mod Wrongs
 pub mod Sheets

@@ -9,6 +9,9 @@ ether-proto-offset = by-result _ (λ κs a ws ws′. refl)
 pub net-offset : Unique crate.ast.net_offset.ended (λ M 𝓤. crate.ast.net_offset.clauses 𝓤)
 net-offset = by-result _ (λ κs a ws ws′. refl)
 
+pub has-macs : Unique crate.ast.has_macs.ended (λ M 𝓤. crate.ast.has_macs.clauses 𝓤)
+has-macs = by-result _ (λ κs a ws ws′. refl)
+
 pub link-of : Unique crate.ast.link_of.ended (λ M 𝓤. crate.ast.link_of.clauses 𝓤)
 link-of = by-result _ (λ κs a ws ws′. refl)
 

@@ -1,6 +1,6 @@
 -- The codes of the sheet, each in its type's order. A code past the last stands for the last, so that every record can be read.
 use Prim.Native.Nat.{ℕ}
-use mathlib.Core.Bool.{cond}
+use mathlib.Core.Bool.{Bool, true, false, cond}
 use lib.Dec.{eqb}
 use Rattle.filter.specs.declared.ast.Dir.{Dir}
 use Rattle.filter.specs.declared.ast.Dir.the-variants.{SrcOrDst, Src, Dst, SrcAndDst}
@@ -17,23 +17,31 @@ use Rattle.filter.specs.declared.ast.AccessSize.the-variants.{Byte, Half
 use Rattle.filter.specs.declared.ast.Layer.{Layer}
 use Rattle.filter.specs.declared.ast.Layer.the-variants.{Raw, Net, Trans}
 use Rattle.filter.specs.declared.ast.LinkType.{LinkType}
-use Rattle.filter.specs.declared.ast.LinkType.the-variants.{Ethernet, RawIp}
+use Rattle.filter.specs.declared.ast.LinkType.the-variants.{Ethernet, RawIp, LinuxSll}
+use Rattle.filter.specs.declared.ast.Link.{Link}
 use Rattle.filter.specs.declared.ast.EtherOffset.{EtherOffset}
 use Rattle.filter.specs.declared.ast.EtherOffset.the-variants.{At, Nowhere}
 
--- "Link 0, Ethernet", "Link 1, RawIp"
+-- "Link 0, Ethernet", "Link 1, RawIp", "Link 2 is new"
 unfoldable pub linkOf : ℕ → LinkType
-linkOf b = cond (eqb b 0) Ethernet RawIp
+linkOf b = cond (eqb b 0) Ethernet (cond (eqb b 1) RawIp LinuxSll)
 
--- "Ethernet: ethertype at byte 12", "RawIp: no ethertype"
+-- "Describe a link by a record: where the ethertype is, if anywhere; where the network header starts; whether MAC addresses are there."
+-- "Ethernet: ethertype at byte 12, network header at 14"; "RawIp: no ethertype, network header at 0"; "Linux's cooked header .. has 16 bytes, its protocol at 14".
+unfoldable pub linkRecord : LinkType → Link
+linkRecord Ethernet = record { ethertype = At 12; net = 14; macs = true }
+linkRecord RawIp = record { ethertype = Nowhere; net = 0; macs = false }
+linkRecord LinuxSll = record { ethertype = At 14; net = 16; macs = false }
+
+-- "All offsets .. that name 12, 14 or 16 from the frame's start .. are read from this record"
 unfoldable pub etherProtoOffset : LinkType → EtherOffset
-etherProtoOffset Ethernet = At 12
-etherProtoOffset RawIp = Nowhere
+etherProtoOffset link = linkRecord link .ethertype
 
--- "network header at 14", "network header at 0"
 unfoldable pub netOffset : LinkType → ℕ
-netOffset Ethernet = 14
-netOffset RawIp = 0
+netOffset link = linkRecord link .net
+
+unfoldable pub hasMacs : LinkType → Bool
+hasMacs link = linkRecord link .macs
 
 -- "1 direction (`Dir` order, 0 to 3)"
 unfoldable pub dirOf : ℕ → Dir

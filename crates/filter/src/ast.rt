@@ -1,6 +1,6 @@
 // The types of ast.rs by value. An `Option` is an enum of its own; an address is whole numbers.
 ghost use mathlib.Core.Path.{_≡_};
-ghost use Rattle.filter.specs.Ast.{dirOf, cmpOf, arithOf, layerOf, accessSizeOf, protoOf, maybeProtoOf, linkOf, etherProtoOffset, netOffset};
+ghost use Rattle.filter.specs.Ast.{dirOf, cmpOf, arithOf, layerOf, accessSizeOf, protoOf, maybeProtoOf, linkOf, linkRecord, etherProtoOffset, netOffset, hasMacs};
 
 // Which address or port is tested.
 pub enum Dir {
@@ -185,6 +185,7 @@ pub enum Primitive {
 pub enum LinkType {
     Ethernet,
     RawIp,
+    LinuxSll,
 }
 
 // Where the ethertype stands, if the link has one.
@@ -193,22 +194,51 @@ pub enum EtherOffset {
     Nowhere,
 }
 
+// What a link is to a filter: all that is asked of it stands here.
+pub struct Link {
+    pub ethertype: EtherOffset,
+    pub net: u32,
+    pub macs: bool,
+}
+
+fn link_record(link: LinkType) -> Link
+    ensures { λ r. ⌜ r ≡ linkRecord link ⌝ }
+{
+    match link {
+        LinkType::Ethernet => Link {
+            ethertype: EtherOffset::At(12),
+            net: 14,
+            macs: true,
+        },
+        LinkType::RawIp => Link {
+            ethertype: EtherOffset::Nowhere,
+            net: 0,
+            macs: false,
+        },
+        LinkType::LinuxSll => Link {
+            ethertype: EtherOffset::At(14),
+            net: 16,
+            macs: false,
+        },
+    }
+}
+
 pub fn ether_proto_offset(link: LinkType) -> EtherOffset
     ensures { λ r. ⌜ r ≡ etherProtoOffset link ⌝ }
 {
-    match link {
-        LinkType::Ethernet => EtherOffset::At(12),
-        LinkType::RawIp => EtherOffset::Nowhere,
-    }
+    link_record(link).ethertype
 }
 
 pub fn net_offset(link: LinkType) -> u32
     ensures { λ r. ⌜ r ≡ netOffset link ⌝ }
 {
-    match link {
-        LinkType::Ethernet => 14,
-        LinkType::RawIp => 0,
-    }
+    link_record(link).net
+}
+
+pub fn has_macs(link: LinkType) -> bool
+    ensures { λ r. ⌜ r ≡ hasMacs link ⌝ }
+{
+    link_record(link).macs
 }
 
 pub fn link_of(b: u8) -> LinkType
@@ -216,7 +246,8 @@ pub fn link_of(b: u8) -> LinkType
 {
     match b {
         0 => LinkType::Ethernet,
-        _ => LinkType::RawIp,
+        1 => LinkType::RawIp,
+        _ => LinkType::LinuxSll,
     }
 }
 

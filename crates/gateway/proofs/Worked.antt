@@ -15,7 +15,7 @@ use Rattle.ebpf.specs.Step.{leAt, contextAct, frameAct, loadAct, readable, reg6
 use Rattle.ebpf.specs.declared.insn.Insn.{Insn}
 use Rattle.ebpf.proofs.Examples.{k2-insns, k2}
 use Rattle.program.specs.Program.{codeOf}
-use Rattle.filter.specs.Ast.{linkOf, etherProtoOffset, netOffset, dirOf, cmpOf, arithOf, layerOf, accessSizeOf, protoOf, maybeProtoOf}
+use Rattle.filter.specs.Ast.{linkOf, linkRecord, etherProtoOffset, netOffset, dirOf, cmpOf, arithOf, layerOf, accessSizeOf, protoOf, maybeProtoOf}
 use Rattle.filter.specs.Bytes.{be2, be4, be8}
 use Rattle.filter.specs.First.{first, any}
 use Rattle.filter.specs.Record.{ipv6At, ipv6NetAt, rhsAt, accessAt, dirAt, protoAt, hostAt, portAt, net6At, decodeAt, stepAt}
@@ -30,7 +30,7 @@ use Rattle.tree.specs.Tree.{holds, treesOf, treeOf}
 use Rattle.checks.specs.Check.{wrongIn, sheetWrong, lowestWrong, takes, stepsBefore, oneTree, complete, baseOf, far, farOffset, shifts, bigShift, shiftAt, checkAccesses, checkParts, checkSections, checkOf}
 use Rattle.checks.specs.Length as L
 use Rattle.checks.specs.Measure.{measured, measureOf, roomed, admitOf}
-use Rattle.checks.specs.Refusal.{onRaw, etherRefusal, protoRefusal, portRefusal, opRefusal, stepRefusal, stepsRefusal, rhsRefusal, accessRefusal, refusal}
+use Rattle.checks.specs.Refusal.{unlessEther, etherRefusal, protoRefusal, portRefusal, opRefusal, stepRefusal, stepsRefusal, rhsRefusal, accessRefusal, refusal}
 use Rattle.meaning.specs.Frame.{there, number, passes}
 use Rattle.meaning.specs.Meaning as M
 use Rattle.meaning.specs.Evaluate.{primitiveHolds, expressionHolds}
@@ -201,11 +201,11 @@ unfolding
     outcomeOf outcome answerOf outputAfter admitOf roomed measureOf measured checkOf checkSections checkParts checkAccesses complete oneTree stepsBefore takes lowestWrong sheetWrong
     wrongIn baseOf far farOffset shifts bigShift shiftAt shapeOf scan wanted metBy sectionsOf stepCount primCount tokenCount stepsPart primsPart tokensPart recordWrong stepWrong
     tokenWrong wrongByte most least plainMost accessMost numberMost optional fieldMost qMost first any be2 be4 be8 linkOf dirOf cmpOf arithOf layerOf accessSizeOf protoOf maybeProtoOf
-    decodeAt dirAt protoAt hostAt portAt net6At ipv6NetAt ipv6At accessAt rhsAt stepAt refusal etherRefusal onRaw protoRefusal portRefusal accessRefusal rhsRefusal stepsRefusal
+    decodeAt dirAt protoAt hostAt portAt net6At ipv6NetAt ipv6At accessAt rhsAt stepAt refusal etherRefusal unlessEther protoRefusal portRefusal accessRefusal rhsRefusal stepsRefusal
     stepRefusal opRefusal L.programLength L.sizesOf L.sizeAt L.sizeOf L.countOf L.ethertypeSize L.sides L.clip L.net6Side L.l4Size L.prereqSize L.protoSize L.cmpSize L.swapSize
     L.layerSize L.accessSize count treeOf treesOf template templateOf emit-primitive emit-proto emit-host4 check-addr4 check-word-at emit-net6 check-net6 check-segment segment
     prefixMask emit-port emit-port-prereqs prereqs-v4 emit-l4-proto-check check-ports check-port emit-byte-access access-at steps-and-cmp emit-steps emit-cmp sides transport
-    etherProtoOffset netOffset emit-ethertype check emit-load guard load size-bytes end-of fails skips succeeds class-of compileL emitL listed prologue epilogue endedL resolvedL setOff
+    linkRecord etherProtoOffset netOffset emit-ethertype check emit-load guard load size-bytes end-of fails skips succeeds class-of compileL emitL listed prologue epilogue endedL resolvedL setOff
     reach successes failures codeOf new to-le-bytes runOf goOf endedOf firstState stepOf turnOf statusOf placeAfter regsAfter actAt actOf exitAct branchRegAct branchAct swapAct imm32Act
     imm64Act reg64Act readable loadAct frameAct contextAct leAt withOf valueOf knownOf fresh exitForm branchRegForm branchForm swapForm imm32Form imm64Form reg64Form loadForm
     formAt formOf allowed plain compares swapped alu64 alu32 sext32 sext16 insnAt sheetHolds expressionHolds primitiveHolds holds M.means M.host4 M.net6 M.halves M.covered M.halfMask

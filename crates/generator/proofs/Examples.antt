@@ -7,7 +7,7 @@ use lib.ListN.{getD, drop, replicate}
 use Rattle.ebpf.specs.Insn.{new, to-le-bytes}
 use Rattle.ebpf.proofs.Examples.{k2-insns, k2}
 use Rattle.program.specs.Program.{codeOf}
-use Rattle.filter.specs.Ast.{linkOf, etherProtoOffset, netOffset, protoOf}
+use Rattle.filter.specs.Ast.{linkOf, linkRecord, etherProtoOffset, netOffset, protoOf}
 use Rattle.filter.specs.Bytes.{be2}
 use Rattle.filter.specs.First.{first, any}
 use Rattle.filter.specs.Record.{decodeAt, protoAt}
@@ -46,7 +46,7 @@ unfolding
     outcomeOf outcome answerOf outputAfter admitOf roomed measureOf measured programLength sizesOf sizeAt sizeOf countOf protoSize ethertypeSize count checkOf checkSections checkParts
     checkAccesses complete oneTree stepsBefore takes lowestWrong sheetWrong wrongIn farOffset shiftAt shapeOf scan wanted metBy sectionsOf stepCount primCount tokenCount stepsPart
     primsPart tokensPart recordWrong stepWrong tokenWrong wrongByte most least plainMost numberMost optional fieldMost qMost decodeAt protoAt protoOf be2 first any linkOf refusal
-    protoRefusal template templateOf emit-primitive emit-proto emit-ethertype etherProtoOffset netOffset check emit-load guard load size-bytes end-of fails class-of treeOf treesOf
+    protoRefusal template templateOf emit-primitive emit-proto emit-ethertype linkRecord etherProtoOffset netOffset check emit-load guard load size-bytes end-of fails class-of treeOf treesOf
     compileL emitL listed prologue epilogue endedL resolvedL setOff reach successes failures new codeOf to-le-bytes
 worked = (refl, refl, (λ out. refl), refl, refl)
 

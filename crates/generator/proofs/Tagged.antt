@@ -6,34 +6,25 @@ use native.Mathlib.Omega.{arith}
 use Rattle.filter.specs.Ast.{etherProtoOffset}
 use Rattle.filter.specs.Record.{decodeAt}
 use Rattle.filter.specs.declared.ast.LinkType.{LinkType}
-use Rattle.filter.specs.declared.ast.LinkType.the-variants.{Ethernet, RawIp}
-use Rattle.filter.specs.declared.ast.EtherOffset.the-variants.{At, Nowhere}
+use Rattle.filter.specs.declared.ast.EtherOffset.the-variants.{Nowhere}
 use Rattle.filter.specs.declared.ast.MaybeId.{MaybeId}
 use Rattle.filter.specs.declared.ast.Primitive.{Primitive}
 use Rattle.filter.specs.declared.ast.Primitive.the-variants.{Vlan, PppoeSession}
 use Rattle.checks.specs.Check.{stepsBefore}
-use Rattle.checks.specs.Refusal.{refusal, etherRefusal, onRaw}
+use Rattle.checks.specs.Refusal.{refusal, etherRefusal, unlessEther}
 use Rattle.patches.specs.Machine.Tpl.{refused}
 use Rattle.generator.specs.Template.{templateOf, template}
 
 module _ (mode : ℕ) (link : LinkType) (steps prims : List ℕ) (k : ℕ) (none : etherProtoOffset link ≡ Nowhere) where
   -- A primitive that asks for an ethertype other than IPv4's.
-  asks : (p : Primitive) → ((l : LinkType) → etherProtoOffset l ≡ Nowhere → (from : ℕ) → refusal l steps from p ≡ 11) → decodeAt prims (24 * k) ≡ p → template mode link steps prims k ≡ refused 11
+  asks : (p : Primitive) → ((from : ℕ) → refusal link steps from p ≡ 11) → decodeAt prims (24 * k) ≡ p → template mode link steps prims k ≡ refused 11
   unfolding template templateOf
-  asks p earns e = rw (e, earns link none (stepsBefore prims k)) refl
+  asks p earns e = rw (e, earns (stepsBefore prims k)) refl
 
   pub vlan-refused : (id : MaybeId) → decodeAt prims (24 * k) ≡ Vlan id → template mode link steps prims k ≡ refused 11
-  unfolding refusal etherRefusal onRaw etherProtoOffset
-  vlan-refused id = asks (Vlan id) go
-    where
-      go : (l : LinkType) → etherProtoOffset l ≡ Nowhere → (from : ℕ) → refusal l steps from (Vlan id) ≡ 11
-      go Ethernet e from = let z : _≡_ {A = ℕ} 0 1 = cc in absurd (omega arith)
-      go RawIp e from = refl
+  unfolding refusal etherRefusal unlessEther
+  vlan-refused id = asks (Vlan id) (λ from. rw none)
 
   pub session-refused : (id : MaybeId) → decodeAt prims (24 * k) ≡ PppoeSession id → template mode link steps prims k ≡ refused 11
-  unfolding refusal etherRefusal onRaw etherProtoOffset
-  session-refused id = asks (PppoeSession id) go
-    where
-      go : (l : LinkType) → etherProtoOffset l ≡ Nowhere → (from : ℕ) → refusal l steps from (PppoeSession id) ≡ 11
-      go Ethernet e from = let z : _≡_ {A = ℕ} 0 1 = cc in absurd (omega arith)
-      go RawIp e from = refl
+  unfolding refusal etherRefusal unlessEther
+  session-refused id = asks (PppoeSession id) (λ from. rw none)

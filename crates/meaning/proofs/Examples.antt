@@ -4,7 +4,7 @@ use mathlib.Core.Path.{_≡_, refl}
 use mathlib.Core.List.{List, [], _∷_, _++_}
 use mathlib.Core.Bool.{true, false}
 use lib.ListN.{take}
-use Rattle.filter.specs.Ast.{linkOf, etherProtoOffset, netOffset, dirOf}
+use Rattle.filter.specs.Ast.{linkOf, linkRecord, etherProtoOffset, netOffset, dirOf}
 use Rattle.filter.specs.Bytes.{be2, be4}
 use Rattle.filter.specs.First.{first, any}
 use Rattle.filter.specs.Record.{decodeAt, dirAt, hostAt}
@@ -41,7 +41,7 @@ pub nets : (net6 Ethernet (bare 0xdd) (record { hi = 7; lo = 8 }) 0 Src ≡ true
     × (net4 Ethernet bare4 (record { addr = 7; mask = 0 }) Src ≡ false)
     × (net4 Ethernet (bare4 ++ zeros 16) (record { addr = 7; mask = 0 }) Src ≡ true)
     × (net4 Ethernet (bare4 ++ zeros 15) (record { addr = 7; mask = 0 }) Src ≡ false)
-unfolding net6 net4 address4 halves directed ethertype passes there number etherProtoOffset netOffset covered halfMask prefixMask halfOf
+unfolding net6 net4 address4 halves directed ethertype passes there number etherProtoOffset netOffset linkRecord covered halfMask prefixMask halfOf
 nets = (refl, refl, refl, refl, refl)
 
 -- K3: "prefix 17: second segment masked 0x8000"; K4: "prefix 0: no address byte"; "prefixes above 128 act as 128".
@@ -63,7 +63,7 @@ pub k7 : (means RawIp segment [] 0 (Port 80 Src NoProto) ≡ true)
     × (means RawIp (take 23 segment) [] 0 (Port 80 Src NoProto) ≡ false)
     × (means RawIp segment [] 0 (Port 1025 SrcOrDst NoProto) ≡ true)
     × (means RawIp segment [] 0 (Port 1025 Src NoProto) ≡ false)
-unfolding means ports portsAt start4 start6 ip ip6 l4 given directed ethertype passes there number etherProtoOffset netOffset
+unfolding means ports portsAt start4 start6 ip ip6 l4 given directed ethertype passes there number etherProtoOffset netOffset linkRecord
 k7 = (refl, refl, refl, refl)
 
 -- One primitive, its first eight bytes given, and the tokens.
@@ -81,16 +81,22 @@ inbound tokens = lone (21 ∷ zeros 7) tokens
 abbrev sent : List ℕ
 sent = bare4 ++ (zeros 12 ++ (10 ∷ 0 ∷ 0 ∷ 1 ∷ []))
 
+-- The same behind Linux's cooked header: "its protocol at 14", and the network header at 16.
+abbrev cooked : List ℕ
+cooked = zeros 2 ++ sent
+
 abbrev nots : ℕ → List ℕ
 nots zero = 0 ∷ []
 nots (suc n) = 3 ∷ nots n
 
--- K5: "a 30 byte frame with that source passes, its first 29 bytes drop; under Not they pass". 9, "tree deeper than 256, the root counted", comes before 16.
+-- K5: "a 30 byte frame with that source passes, its first 29 bytes drop; under Not they pass". 9, "tree deeper than 256, the root counted", comes before 16. On link 2 everything stands two bytes later.
 pub k5 : (evaluateOf (host (0 ∷ 1 ∷ 0 ∷ [])) 0 sent ≡ Judged true)
     × (evaluateOf (host (0 ∷ 1 ∷ 0 ∷ [])) 0 (take 29 sent) ≡ Judged false)
     × (evaluateOf (host (0 ∷ 2 ∷ 3 ∷ 0 ∷ [])) 0 (take 29 sent) ≡ Judged true)
     × (evaluateOf (host (0 ∷ 2 ∷ 3 ∷ 0 ∷ [])) 0 sent ≡ Judged false)
-    × (evaluateOf (host (0 ∷ 1 ∷ 0 ∷ [])) 2 sent ≡ Refused 1 0)
+    × (evaluateOf (host (0 ∷ 1 ∷ 0 ∷ [])) 2 cooked ≡ Judged true)
+    × (evaluateOf (host (0 ∷ 1 ∷ 0 ∷ [])) 2 (take 31 cooked) ≡ Judged false)
+    × (evaluateOf (host (0 ∷ 1 ∷ 0 ∷ [])) 3 sent ≡ Refused 1 0)
     × (evaluateOf (host (0 ∷ 0 ∷ [])) 0 sent ≡ Refused 4 0)
     × (evaluateOf (host (1 ∷ 0 ∷ nots 255)) 0 sent ≡ Judged false)
     × (evaluateOf (host (1 ∷ 1 ∷ nots 256)) 0 sent ≡ Refused 9 0)
@@ -100,5 +106,5 @@ unfolding
     evaluateOf evaluated judge expressionHolds primitiveHolds refusalAt firstRefused treeOf treesOf depth holds first any checkOf checkSections checkParts
     checkAccesses complete oneTree stepsBefore takes lowestWrong sheetWrong wrongIn farOffset shiftAt shapeOf scan wanted metBy sectionsOf stepCount primCount
     tokenCount stepsPart primsPart tokensPart recordWrong stepWrong tokenWrong wrongByte most least plainMost numberMost optional fieldMost qMost decodeAt dirAt hostAt be2 be4
-    linkOf dirOf refusal means host4 directed ethertype passes there number etherProtoOffset netOffset
-k5 = (refl, refl, refl, refl, refl, refl, refl, refl, refl, refl)
+    linkOf dirOf refusal means host4 directed ethertype passes there number etherProtoOffset netOffset linkRecord
+k5 = (refl, refl, refl, refl, refl, refl, refl, refl, refl, refl, refl, refl)

@@ -11,7 +11,7 @@ use filter::ast::Proto;
 use filter::ast::net_offset;
 ghost use mathlib.Core.Path.{_≡_};
 ghost use mathlib.Core.Bool.{_&&_};
-ghost use Prim.Native.Nat.{_+_, _<_};
+ghost use Prim.Native.Nat.{_+_, _≤_};
 ghost use lib.Dec.{leb};
 ghost use Rattle.filter.specs.Ast.{netOffset};
 ghost use Rattle.meaning.specs.Frame.{there};
@@ -97,7 +97,7 @@ fn ports_at(link: LinkType, frame: &[u8], start: u32, lo: u16, hi: u16, dir: Dir
 
 // Where the transport header starts after an IPv4 header, whose length is in its first byte.
 pub fn start4(link: LinkType, frame: &[u8]) -> u32
-    ensures { λ r. ⌜ (r ≡ start4 link (now (frame .entry))) × (r < 75) ⌝ }
+    ensures { λ r. ⌜ (r ≡ start4 link (now (frame .entry))) × (r ≤ 76) ⌝ }
 {
     let net = net_offset(link);
     net + 4 * ((byte_at(frame, net, 0) % 16) as u32)

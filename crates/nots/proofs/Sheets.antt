@@ -231,9 +231,9 @@ module _ (s : List ℕ) (output : ℕ) {m : ℕ} (e : pushOf s output ≡ Length
   same-answer link f =
       ap (λ x. evaluated x (linkOf link) (newSheet s) f)
       (sorted-check (newSheet s) (new-sorted s in-order) link
-      ∙ ap (λ l. cond (ltb 1 link) (checked.Refused 1 0) (checkAccesses (linkOf link) l (primsPart (newSheet s) (got .steps) (got .prims)) (got .steps) (got .prims) (length (flat (wantedPart (treeIn s)))))) (new-steps s in-order)
-      ∙ ap (λ l. cond (ltb 1 link) (checked.Refused 1 0) (checkAccesses (linkOf link) (stepsPart s (got .steps)) l (got .steps) (got .prims) (length (flat (wantedPart (treeIn s)))))) (new-prims s in-order))
-      ∙ go (ltb 1 link)
+      ∙ ap (λ l. cond (ltb 2 link) (checked.Refused 1 0) (checkAccesses (linkOf link) l (primsPart (newSheet s) (got .steps) (got .prims)) (got .steps) (got .prims) (length (flat (wantedPart (treeIn s)))))) (new-steps s in-order)
+      ∙ ap (λ l. cond (ltb 2 link) (checked.Refused 1 0) (checkAccesses (linkOf link) (stepsPart s (got .steps)) l (got .steps) (got .prims) (length (flat (wantedPart (treeIn s)))))) (new-prims s in-order))
+      ∙ go (ltb 2 link)
       ∙ ap (λ x. evaluated x (linkOf link) s f) (sym (sorted-check s in-order link))
     where
       rest : ℕ → Checked

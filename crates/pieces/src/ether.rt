@@ -8,6 +8,7 @@ use filter::ast::AccessSize;
 use filter::ast::EtherOffset;
 use filter::ast::LinkType;
 use filter::ast::ether_proto_offset;
+use filter::ast::net_offset;
 use patches::Patches;
 use patches::push_failure;
 use patches::push_jump;
@@ -22,11 +23,7 @@ ghost use Rattle.pieces.specs.Fragments.{Fits, emit-ethertype, emit-ip4-
 pub fn net_plus(link: LinkType, k: u8) -> u32
     ensures { λ r. ⌜ r ≡ netOffset link + k ⌝ }
 {
-    let n = k as u32;
-    match link {
-        LinkType::Ethernet => 14 + n,
-        LinkType::RawIp => 0 + n,
-    }
+    net_offset(link) + k as u32
 }
 
 // `emit_ethertype`; on a link without one, IPv4 is implicit and the others are refused before.

@@ -11,7 +11,7 @@ use Rattle.generator.specs.Compile.Outcome.{early}
 unfoldable pub listed : List ℕ → ℕ → ℕ → Outcome
 listed input output work =
     cond (ltb (length input) 2) (early 1 0)
-    (cond (ltb 1 (getD input 0 0)) (early 1 0)
+    (cond (ltb 2 (getD input 0 0)) (early 1 0)
     (cond (ltb 1 (getD input 1 0)) (early 1 0)
     (cond (ltb 65538 (length input)) (early 2 0)
     (outcomeOf (drop 2 input) (getD input 0 0) (getD input 1 0) output work))))

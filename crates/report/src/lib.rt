@@ -149,7 +149,7 @@ pub fn list(input: &[u8], output: &mut [u8], work: &mut [u32])
     }
     let link = input[0];
     let mode = input[1];
-    if 1 < link {
+    if 2 < link {
         print_line(1, 0);
         return;
     }

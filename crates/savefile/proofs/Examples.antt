@@ -23,6 +23,9 @@ ethernet = 0 ∷ 0 ∷ 0 ∷ 1 ∷ []
 abbrev raw-ip : List ℕ
 raw-ip = 101 ∷ 0 ∷ 0 ∷ 0 ∷ []
 
+abbrev cooked : List ℕ
+cooked = 113 ∷ 0 ∷ 0 ∷ 0 ∷ []
+
 -- A record of two bytes, captured whole; its header alone; one that claims 16,385 bytes.
 abbrev two-bytes : List ℕ
 two-bytes = 0 ∷ 0 ∷ 0 ∷ 0 ∷ 0 ∷ 0 ∷ 0 ∷ 0 ∷ 0 ∷ 0 ∷ 0 ∷ 2 ∷ 0 ∷ 0 ∷ 0 ∷ 2 ∷ 7 ∷ 7 ∷ []
@@ -37,6 +40,7 @@ cut-header = 0 ∷ 0 ∷ 0 ∷ 0 ∷ 0 ∷ 0 ∷ 0 ∷ 0 ∷ 0 ∷ 0 ∷ 64 ∷ 
 pub checked :
     (openedOf (big-micro ++ rest ++ ethernet ++ two-bytes) ≡ Capture true 0)
     × (openedOf (little-nano ++ rest ++ raw-ip) ≡ Capture false 1)
+    × (openedOf (little-nano ++ rest ++ cooked) ≡ Capture false 2)
     × (openedOf [] ≡ Refused 42 0)
     × (openedOf (9 ∷ 9 ∷ 9 ∷ []) ≡ Refused 42 0)
     × (openedOf (9 ∷ 9 ∷ 9 ∷ 9 ∷ []) ≡ Refused 40 0)
@@ -46,4 +50,4 @@ pub checked :
     × (openedOf (big-micro ++ rest ++ ethernet ++ two-bytes ++ long-record) ≡ Refused 43 42)
     × (openedOf (big-micro ++ rest ++ ethernet ++ two-bytes ++ two-bytes ++ (0 ∷ [])) ≡ Refused 42 60)
 unfolding openedOf headerOf magicOf isMagic numberAt joined headerIn walkedOf fileWalk walkOf nextOf
-checked = (refl, refl, refl, refl, refl, refl, refl, refl, refl, refl)
+checked = (refl, refl, refl, refl, refl, refl, refl, refl, refl, refl, refl)

@@ -17,14 +17,14 @@ pub header-long : (s : List ℕ) (big : Bool) (link : ℕ) → headerOf s ≡ Ca
 unfolding headerOf headerIn
 header-long s big link e = go (ltb (length s) 4) (magicOf s) e
   where
-    within : (b : Bool) (t u v : Bool) → ltb (length s) 24 ≡ t → cond t (Refused 42 0) (cond u (Capture b 0) (cond v (Capture b 1) (Refused 41 20))) ≡ Capture big link → 24 ≤ length s
-    within b true u v f q = let z : _≡_ {A = ℕ} 0 1 = cc in absurd (omega arith)
-    within b false u v f q = nltb→le (length s) 24 (rw f tt)
+    within : (x : Opened) (t : Bool) → ltb (length s) 24 ≡ t → cond t (Refused 42 0) x ≡ Capture big link → 24 ≤ length s
+    within x true f q = let z : _≡_ {A = ℕ} 0 1 = cc in absurd (omega arith)
+    within x false f q = nltb→le (length s) 24 (rw f tt)
 
     go : (t : Bool) (m : Magic) → cond t (Refused 42 0) (byMagic m s) ≡ Capture big link → 24 ≤ length s
     go true m q = let z : _≡_ {A = ℕ} 0 1 = cc in absurd (omega arith)
-    go false magic.Big q = within true (ltb (length s) 24) (eqb (numberAt true s 20) 1) (eqb (numberAt true s 20) 101) refl q
-    go false magic.Little q = within false (ltb (length s) 24) (eqb (numberAt false s 20) 1) (eqb (numberAt false s 20) 101) refl q
+    go false magic.Big q = within _ (ltb (length s) 24) refl q
+    go false magic.Little q = within _ (ltb (length s) 24) refl q
     go false magic.Unknown q = let z : _≡_ {A = ℕ} 0 1 = cc in absurd (omega arith)
 
 -- An opened file has the header's byte order and link, and its walk met no fault.

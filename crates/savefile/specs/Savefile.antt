@@ -29,12 +29,13 @@ isMagic x = eqb x 0xa1b2c3d4 || eqb x 0xa1b23c4d
 unfoldable pub magicOf : List ℕ → Magic
 magicOf s = cond (isMagic (numberAt true s 0)) magic.Big (cond (isMagic (numberAt false s 0)) magic.Little magic.Unknown)
 
--- "24 byte header", "link type 1 Ethernet, 101 raw IP": "one 32-bit number, picks the link". "42 file ends inside a header", "41 other link type".
+-- "24 byte header", "link type 1 Ethernet, 101 raw IP", "A1 takes type 113" for link 2: "one 32-bit number, picks the link". "42 file ends inside a header", "41 other link type".
 unfoldable pub headerIn : Bool → List ℕ → Opened
 headerIn big s =
     cond (ltb (length s) 24) (Refused 42 0)
     (cond (eqb (numberAt big s 20) 1) (Capture big 0)
-    (cond (eqb (numberAt big s 20) 101) (Capture big 1) (Refused 41 20)))
+    (cond (eqb (numberAt big s 20) 101) (Capture big 1)
+    (cond (eqb (numberAt big s 20) 113) (Capture big 2) (Refused 41 20))))
 
 abbrev pub byMagic : Magic → List ℕ → Opened
 byMagic magic.Big s = headerIn true s

@@ -78,6 +78,7 @@ fn header_in(file: &[u8], big: bool) -> Opened
     match number_at(file, 20, big) {
         1 => Opened::Capture { big, link: 0 },
         101 => Opened::Capture { big, link: 1 },
+        113 => Opened::Capture { big, link: 2 },
         _ => Opened::Refused {
             number: 41,
             place: 20,

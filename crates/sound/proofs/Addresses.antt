@@ -33,7 +33,7 @@ use Rattle.sound.proofs.Pieces.{both, no-code, decides, forgets, ignore
 use Rattle.sound.proofs.Loads.{number-low}
 use Rattle.sound.proofs.Compares.{fails-unless-equal, equal-or}
 use Rattle.sound.proofs.Fields.{computes, field}
-use Rattle.codegen.proofs.Halves.{net-low}
+use Rattle.filter.proofs.Links.{net-low}
 use Rattle.sound.proofs.Ethertypes.{is-ip}
 
 -- Where the second is not there without the first, the first's being there can be asked before either test.

@@ -6,7 +6,6 @@ use mathlib.Core.List.{List}
 use native.Mathlib.Omega.{arith}
 use Rattle.codegen.specs.Primitives.{emit-mpls, access-rhs, emit-byte-access, emit-primitive}
 use Rattle.filter.specs.declared.ast.LinkType.{LinkType}
-use Rattle.filter.specs.declared.ast.LinkType.the-variants.{Ethernet, RawIp}
 use Rattle.filter.specs.declared.ast.MaybeLabel.{MaybeLabel}
 use Rattle.filter.specs.declared.ast.MaybeLabel.the-variants.{NoLabel, SomeLabel}
 use Rattle.filter.specs.declared.ast.CmpRhs.{CmpRhs}
@@ -14,7 +13,7 @@ use Rattle.filter.specs.declared.ast.CmpRhs.the-variants.{Const, Load}
 use Rattle.filter.specs.declared.ast.ByteAccess as access
 use Rattle.filter.specs.declared.ast.Primitive.{Primitive}
 use Rattle.filter.specs.declared.ast.Primitive.the-variants.{Host, Host6, Port, PortRange, Net, Net6, Proto, EtherHost, EtherProto, EtherMulticast, IpBroadcast, IpMulticast, Ip6Multicast, Vlan, Mpls, PppoeDiscovery, PppoeSession, IpProtoChain, Ip6ProtoChain, Len, Inbound, Outbound, ByteAccess}
-use Rattle.checks.specs.Refusal.{onRaw, rhsRefusal, stepsRefusal, accessRefusal, refusal}
+use Rattle.checks.specs.Refusal.{unlessEther, rhsRefusal, stepsRefusal, accessRefusal, refusal}
 use Rattle.meaning.specs.Meaning.{means}
 use Rattle.meaning.specs.Constants.{smallConstants}
 use Rattle.program.specs.Ends.{Frame}
@@ -28,12 +27,10 @@ use Rattle.sound.proofs.Tags.{broadcast-means, multicast-means, mpls-me
 use Rattle.sound.proofs.Accesses.{fine-steps, near-offset, access-compared}
 use Rattle.sound.proofs.Primitives.{primitive-means}
 
-mpls-decides : {frame : List ℕ} {start : ℕ} → Frame frame start → (mode : ℕ) (link : LinkType) (label : MaybeLabel) → onRaw link 15 ≡ 0
+mpls-decides : {frame : List ℕ} {start : ℕ} → Frame frame start → (mode : ℕ) (link : LinkType) (label : MaybeLabel) → unlessEther link 15 ≡ 0
     → (q : Bool) × Means frame start (emit-mpls mode link label) q
-unfolding onRaw
-mpls-decides w mode Ethernet NoLabel e = (_, lands (mpls-means w mode))
-mpls-decides w mode Ethernet (SomeLabel n) e = (_, lands (mpls-label-means w n reads-something))
-mpls-decides w mode RawIp label e = absurd (omega arith)
+mpls-decides w mode link NoLabel e = (_, lands (mpls-means w mode link e))
+mpls-decides w mode link (SomeLabel n) e = (_, lands (mpls-label-means w link n e reads-something))
 
 module _ {frame : List ℕ} {start : ℕ} (w : Frame frame start) (mode : ℕ) (link : LinkType) (steps : List ℕ) (j : ℕ) where
   access-decides : (x : access.ByteAccess) (rhs : CmpRhs) → Fine link steps j (ByteAccess x)

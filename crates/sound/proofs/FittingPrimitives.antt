@@ -11,17 +11,18 @@ use Rattle.ebpf.specs.Insn.{alu32-imm}
 use Rattle.patches.specs.Code.{Slot}
 use Rattle.patches.specs.Code.Slot.{fixed}
 use Rattle.pieces.specs.Fragments.{past, sides, guard, load, end-of, emit-load, alu32-of, emit-steps, transport, fails, skips, succeeds, check, emit-cmp}
-use Rattle.pieces.specs.Fragments.{emit-ethertype, emit-ip4-l4, emit-ip6-l4, emit-dual-l4}
+use Rattle.pieces.specs.Fragments.{ethertype-at, emit-ethertype, emit-ip4-l4, emit-ip6-l4, dual-at, emit-dual-l4}
 use Rattle.filter.specs.Prefix.{prefixMask}
 use Rattle.filter.proofs.Masks.{mask-low}
 use Rattle.codegen.specs.Primitives.{segment, check-word-at, check-addr4, emit-host4, emit-net, check-segment, check-net6, emit-net6, l4-number}
-use Rattle.codegen.specs.Primitives.{emit-l4-proto-check, prereqs-v6, prereqs-v4, emit-port-prereqs, check-port, check-ports, emit-port, check-range, emit-portrange}
+use Rattle.codegen.specs.Primitives.{emit-l4-proto-check, prereqs-v6, prereqs-v4, prereqs-at, emit-port-prereqs, check-port, check-ports, emit-port, check-range, emit-portrange}
 use Rattle.codegen.specs.Primitives.{check-mac, mirrored, emit-ether-host, emit-ether-multicast, emit-ip-broadcast, emit-ip-multicast, emit-ip6-multicast}
-use Rattle.codegen.specs.Primitives.{emit-vlan, emit-mpls, emit-pppoe-session, emit-len, emit-proto, steps-and-cmp, access-at, access-rhs, emit-byte-access, emit-primitive}
+use Rattle.codegen.specs.Primitives.{vlan-id, emit-vlan, mpls-at, emit-mpls, session-id, emit-pppoe-session, emit-len, emit-proto, steps-and-cmp, access-at, access-rhs, emit-byte-access, emit-primitive}
 use Rattle.filter.specs.Ast.{etherProtoOffset, netOffset}
 use Rattle.filter.specs.Record.{stepAt}
 use Rattle.filter.specs.declared.ast.LinkType.{LinkType}
-use Rattle.filter.specs.declared.ast.LinkType.the-variants.{Ethernet, RawIp}
+use Rattle.filter.specs.declared.ast.EtherOffset.{EtherOffset}
+use Rattle.filter.specs.declared.ast.EtherOffset.the-variants.{At, Nowhere}
 use Rattle.filter.specs.declared.ast.AccessSize.{AccessSize}
 use Rattle.filter.specs.declared.ast.AccessSize.the-variants.{Byte, Half, Word}
 use Rattle.filter.specs.declared.ast.Dir.{Dir}
@@ -49,7 +50,8 @@ use Rattle.meaning.specs.Meaning.{halfOf}
 use Rattle.sound.specs.Fine.{FineProto, FineId, FineLabel, FineRhs, Fine}
 use Rattle.sound.specs.Fitting.{FitSlots, no-slots}
 use Rattle.sound.proofs.Filled.{past-append}
-use Rattle.codegen.proofs.Halves.{net-low}
+use Rattle.filter.proofs.Links.{Low, net-low, ether-low}
+use Rattle.filter.proofs.Links.Low.{below, absent}
 use Rattle.sound.proofs.Nets6.{half-low}
 use Rattle.sound.proofs.Accesses.{operand-low, near-offset}
 use Rattle.sound.proofs.Fitting.{fixed-fits, success-fits, failure-fits, append-fits, one-of-fits, short-near}
@@ -102,9 +104,12 @@ module _ (mode : ℕ) where
   cmp-fits BitAnd k l = skips-fits _ k 1 l (omega arith) (failure-fits _ _ _ _ _ (omega arith) no-slots)
 
   ethertype-fits : (link : LinkType) (et : ℕ) → et < 65536 → FitSlots (emit-ethertype mode link et)
-  unfolding emit-ethertype etherProtoOffset
-  ethertype-fits Ethernet et l = check-fits Half 12 et (omega arith) (omega arith)
-  ethertype-fits RawIp et l = no-slots
+  unfolding emit-ethertype
+  ethertype-fits link et l = go (etherProtoOffset link) (ether-low link)
+    where
+      go : (e : EtherOffset) → Low e → FitSlots (ethertype-at mode e et)
+      go (At off) (below h) = check-fits Half off et (omega arith) (omega arith)
+      go Nowhere absent = no-slots
 
   ip4-fits : (link : LinkType) (n : ℕ) → n < 256 → FitSlots (emit-ip4-l4 mode link n)
   unfolding emit-ip4-l4
@@ -117,11 +122,16 @@ module _ (mode : ℕ) where
       let near = net-low link in append-fits (ethertype-fits link 0x86dd (omega arith)) (check-fits Byte (netOffset link + 6) n (omega arith) (omega arith))
 
   dual-fits : (link : LinkType) (n : ℕ) → n < 256 → FitSlots (emit-dual-l4 mode link n)
-  unfolding emit-dual-l4 etherProtoOffset netOffset
-  dual-fits Ethernet n l =
-      append-fits (emit-load-fits Half 12 (omega arith)) (append-fits (skips-fits _ 0x0800 7 (omega arith) (omega arith) (fails-fits _ 0x86dd (omega arith)))
-      (append-fits (check-fits Byte 20 n (omega arith) (omega arith)) (fixed-fits _ _ _ _ _ (omega arith) (omega arith) (check-fits Byte 23 n (omega arith) (omega arith)))))
-  dual-fits RawIp n l = ip4-fits RawIp n l
+  unfolding emit-dual-l4
+  dual-fits link n l = go (etherProtoOffset link) (ether-low link)
+    where
+      go : (e : EtherOffset) → Low e → FitSlots (dual-at mode e link n)
+      go (At off) (below h) =
+          let near = net-low link in
+          append-fits (emit-load-fits Half off (omega arith)) (append-fits (skips-fits _ 0x0800 7 (omega arith) (omega arith) (fails-fits _ 0x86dd (omega arith)))
+          (append-fits (check-fits Byte (netOffset link + 6) n (omega arith) (omega arith))
+          (fixed-fits _ _ _ _ _ (omega arith) (omega arith) (check-fits Byte (netOffset link + 9) n (omega arith) (omega arith)))))
+      go Nowhere absent = ip4-fits link n l
 
   proto-fits : (link : LinkType) (x : protos.Proto) → FineProto x → FitSlots (emit-proto mode link x)
   unfolding emit-proto
@@ -295,36 +305,47 @@ module _ (mode : ℕ) where
     mac-short off addr = omega arith
 
   prereqs-fit : (link : LinkType) (proto : MaybeProto) → FitSlots (emit-port-prereqs mode link proto)
-  unfolding emit-port-prereqs etherProtoOffset
-  prereqs-fit Ethernet proto =
-      append-fits (emit-load-fits Half 12 (omega arith))
-      (append-fits (skips-fits _ 0x0800 (suc (past (prereqs-v6 mode Ethernet proto) 1)) (omega arith) (let short = six-short Ethernet proto in omega arith)
-      (fails-fits _ 0x86dd (omega arith)))
-      (append-fits (six-fits Ethernet proto) (fixed-fits _ _ _ _ _ (let short = four-short Ethernet proto in omega arith) (omega arith) (four-fits Ethernet proto))))
-  prereqs-fit RawIp proto = four-fits RawIp proto
+  unfolding emit-port-prereqs
+  prereqs-fit link proto = go (etherProtoOffset link) (ether-low link)
+    where
+      go : (e : EtherOffset) → Low e → FitSlots (prereqs-at mode link e proto)
+      go (At off) (below h) =
+          append-fits (emit-load-fits Half off (omega arith))
+          (append-fits (skips-fits _ 0x0800 (suc (past (prereqs-v6 mode link proto) 1)) (omega arith) (let short = six-short link proto in omega arith)
+          (fails-fits _ 0x86dd (omega arith)))
+          (append-fits (six-fits link proto) (fixed-fits _ _ _ _ _ (let short = four-short link proto in omega arith) (omega arith) (four-fits link proto))))
+      go Nowhere absent = four-fits link proto
 
   vlan-fits : (link : LinkType) (id : MaybeId) → FineId id → FitSlots (emit-vlan mode link id)
-  unfolding emit-vlan etherProtoOffset
-  vlan-fits Ethernet NoId f = append-fits (ethertype-fits Ethernet 0x8100 (omega arith)) no-slots
-  vlan-fits Ethernet (SomeId n) f =
-      append-fits (ethertype-fits Ethernet 0x8100 (omega arith))
-      (append-fits (emit-load-fits Half 14 (omega arith)) (masked-fits Ethernet AND 0x0fff (omega arith) (fails-fits JNE n (omega arith))))
-  vlan-fits RawIp id f = append-fits (ethertype-fits RawIp 0x8100 (omega arith)) no-slots
+  unfolding emit-vlan
+  vlan-fits link id f = append-fits (ethertype-fits link 0x8100 (omega arith)) (go (etherProtoOffset link) (ether-low link) id f)
+    where
+      go : (e : EtherOffset) → Low e → (id : MaybeId) → FineId id → FitSlots (vlan-id mode link e id)
+      go (At off) (below h) NoId f = no-slots
+      go (At off) (below h) (SomeId n) f =
+          append-fits (emit-load-fits Half (off + 2) (omega arith)) (masked-fits link AND 0x0fff (omega arith) (fails-fits JNE n (omega arith)))
+      go Nowhere absent id f = no-slots
 
   session-fits : (link : LinkType) (id : MaybeId) → FineId id → FitSlots (emit-pppoe-session mode link id)
-  unfolding emit-pppoe-session etherProtoOffset
-  session-fits Ethernet NoId f = append-fits (ethertype-fits Ethernet 0x8864 (omega arith)) no-slots
-  session-fits Ethernet (SomeId n) f = append-fits (ethertype-fits Ethernet 0x8864 (omega arith)) (check-fits Half 16 n (omega arith) (omega arith))
-  session-fits RawIp id f = append-fits (ethertype-fits RawIp 0x8864 (omega arith)) no-slots
+  unfolding emit-pppoe-session
+  session-fits link id f = append-fits (ethertype-fits link 0x8864 (omega arith)) (go (etherProtoOffset link) (ether-low link) id f)
+    where
+      go : (e : EtherOffset) → Low e → (id : MaybeId) → FineId id → FitSlots (session-id mode link e id)
+      go (At off) (below h) NoId f = no-slots
+      go (At off) (below h) (SomeId n) f = check-fits Half (off + 4) n (omega arith) (omega arith)
+      go Nowhere absent id f = no-slots
 
   label-fits : (link : LinkType) (label : MaybeLabel) → FineLabel label → FitSlots (emit-mpls mode link label)
-  unfolding emit-mpls etherProtoOffset
-  label-fits Ethernet NoLabel f =
-      append-fits (emit-load-fits Half 12 (omega arith)) (append-fits (skips-fits _ 0x8847 1 (omega arith) (omega arith) (fails-fits _ 0x8848 (omega arith))) no-slots)
-  label-fits Ethernet (SomeLabel n) f =
-      append-fits (emit-load-fits Half 12 (omega arith)) (append-fits (skips-fits _ 0x8847 1 (omega arith) (omega arith) (fails-fits _ 0x8848 (omega arith)))
-      (append-fits (emit-load-fits Word 14 (omega arith)) (masked-fits Ethernet RSH 12 (omega arith) (fails-fits JNE n f))))
-  label-fits RawIp label f = no-slots
+  unfolding emit-mpls
+  label-fits link label f = go (etherProtoOffset link) (ether-low link) label f
+    where
+      go : (e : EtherOffset) → Low e → (label : MaybeLabel) → FineLabel label → FitSlots (mpls-at mode link e label)
+      go (At off) (below h) NoLabel f =
+          append-fits (emit-load-fits Half off (omega arith)) (append-fits (skips-fits _ 0x8847 1 (omega arith) (omega arith) (fails-fits _ 0x8848 (omega arith))) no-slots)
+      go (At off) (below h) (SomeLabel n) f =
+          append-fits (emit-load-fits Half off (omega arith)) (append-fits (skips-fits _ 0x8847 1 (omega arith) (omega arith) (fails-fits _ 0x8848 (omega arith)))
+          (append-fits (emit-load-fits Word (off + 2) (omega arith)) (masked-fits link RSH 12 (omega arith) (fails-fits JNE n f))))
+      go Nowhere absent label f = no-slots
 
   module _ (link : LinkType) (steps : List ℕ) where
     steps-fit : (n j : ℕ) → ((p : ℕ) → getD steps p 0 < 256) → FitSlots (emit-steps steps n j)

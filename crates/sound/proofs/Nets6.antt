@@ -30,7 +30,7 @@ use Rattle.sound.proofs.Pieces.{both, no-code, decides, by-direction}
 use Rattle.sound.proofs.Loads.{number2-low}
 use Rattle.sound.proofs.Compares.{takes-always, reads}
 use Rattle.sound.proofs.Fields.{checks}
-use Rattle.codegen.proofs.Halves.{net-low}
+use Rattle.filter.proofs.Links.{net-low}
 use Rattle.sound.proofs.Ethertypes.{ethertype-means}
 use Rattle.sound.proofs.Addresses.{masks, changed-field}
 

@@ -6,9 +6,7 @@ use mathlib.Core.List.{List}
 use native.Mathlib.Omega.{arith}
 use lib.Bits.{bitAnd}
 use Rattle.codegen.specs.Primitives.{emit-mpls, emit-proto, access-rhs, emit-byte-access, emit-primitive}
-use Rattle.filter.specs.Ast.{etherProtoOffset}
 use Rattle.filter.specs.declared.ast.LinkType.{LinkType}
-use Rattle.filter.specs.declared.ast.LinkType.the-variants.{Ethernet, RawIp}
 use Rattle.filter.specs.declared.ast.Proto as protos
 use Rattle.filter.specs.declared.ast.Proto.the-variants.{Ip, Ip6, Arp, Rarp, Tcp, Udp, Icmp, Icmp6, Igmp, Sctp, Num, Ip6Proto}
 use Rattle.filter.specs.declared.ast.MaybeLabel.{MaybeLabel}
@@ -22,7 +20,7 @@ use Rattle.filter.specs.declared.ast.CmpRhs.the-variants.{Const, Load}
 use Rattle.filter.specs.declared.ast.ByteAccess as access
 use Rattle.filter.specs.declared.ast.Primitive.{Primitive}
 use Rattle.filter.specs.declared.ast.Primitive.the-variants.{Host, Host6, Port, PortRange, Net, Net6, Proto, EtherHost, EtherProto, EtherMulticast, IpBroadcast, IpMulticast, Ip6Multicast, Vlan, Mpls, PppoeDiscovery, PppoeSession, IpProtoChain, Ip6ProtoChain, Len, Inbound, Outbound, ByteAccess}
-use Rattle.checks.specs.Refusal.{onRaw, protoRefusal, rhsRefusal, stepsRefusal, accessRefusal, refusal}
+use Rattle.checks.specs.Refusal.{unlessEther, protoRefusal, rhsRefusal, stepsRefusal, accessRefusal, refusal}
 use Rattle.meaning.specs.Meaning.{compared, tagged, host4, address4, net4, protocol, mpls, accessAt, accessLayer, accessRhs, byteAccess, means}
 use Rattle.meaning.specs.Constants.{smallCompared, smallRhs, smallLabel, smallConstants}
 use Rattle.program.specs.Ends.{Frame}
@@ -76,13 +74,11 @@ module _ {frame : List ℕ} {start : ℕ} (w : Frame frame start) (mode : ℕ) (
   proto-means (Num n) f e = ip4-means w mode link n f
   proto-means (Ip6Proto n) f e = ip6-means w mode link n f e
 
--- MPLS is refused on RawIp.
-mpls-exact : {frame : List ℕ} {start : ℕ} → Frame frame start → (mode : ℕ) (link : LinkType) (label : MaybeLabel) → onRaw link 15 ≡ 0
+mpls-exact : {frame : List ℕ} {start : ℕ} → Frame frame start → (mode : ℕ) (link : LinkType) (label : MaybeLabel) → unlessEther link 15 ≡ 0
     → (mode ≡ 0 → smallLabel label ≡ true) → Tests frame start (emit-mpls mode link label) (mpls link frame label)
-unfolding mpls tagged etherProtoOffset onRaw
-mpls-exact w mode Ethernet NoLabel e s = mpls-means w mode
-mpls-exact w mode Ethernet (SomeLabel n) e s = mpls-label-means w n (reads-equal (takes-small mode n s))
-mpls-exact w mode RawIp label e s = absurd (omega arith)
+unfolding mpls
+mpls-exact w mode link NoLabel e s = mpls-means w mode link e
+mpls-exact w mode link (SomeLabel n) e s = mpls-label-means w link n e (reads-equal (takes-small mode n s))
 
 module _ {frame : List ℕ} {start : ℕ} (w : Frame frame start) (mode : ℕ) (link : LinkType) (steps : List ℕ) (j : ℕ) where
   access-means : (x : access.ByteAccess) (rhs : CmpRhs) → Fine link steps j (ByteAccess x) → FineRhs rhs

@@ -1,5 +1,5 @@
 -- Tags behind the ethertype (VLAN, MPLS, PPPoE), broadcast and multicast, and the frame's length.
-use Prim.Native.Nat.{ℕ, _+_, _*_, _/_, _%_, _^_, _<_}
+use Prim.Native.Nat.{ℕ, _+_, _*_, _/_, _%_, _^_, _<_, _≤_}
 use mathlib.Core.Path.{_≡_, refl, sym, ap, _∙_}
 use mathlib.Core.Bool.{Bool, true, false, not, _&&_, _||_}
 use mathlib.Core.List.{List, [], _∷_, _++_}
@@ -15,19 +15,20 @@ use Rattle.ebpf.specs.Alu.{alu32}
 use Rattle.patches.specs.Code.{Slot}
 use Rattle.patches.specs.Code.Slot.{fixed}
 use Rattle.pieces.specs.Fragments.{emit-load, emit-cmp, fails, skips}
-use Rattle.codegen.specs.Primitives.{emit-ether-multicast, emit-ip-broadcast, emit-ip-multicast, emit-ip6-multicast, emit-vlan, emit-mpls, emit-pppoe-session, emit-len}
+use Rattle.codegen.specs.Primitives.{emit-ether-multicast, emit-ip-broadcast, emit-ip-multicast, emit-ip6-multicast, vlan-id, emit-vlan, mpls-at, emit-mpls, session-id, emit-pppoe-session, emit-len}
 use Rattle.filter.specs.Ast.{etherProtoOffset, netOffset}
 use Rattle.filter.specs.declared.ast.LinkType.{LinkType}
-use Rattle.filter.specs.declared.ast.LinkType.the-variants.{Ethernet, RawIp}
+use Rattle.filter.specs.declared.ast.EtherOffset.{EtherOffset}
+use Rattle.filter.specs.declared.ast.EtherOffset.the-variants.{At, Nowhere}
 use Rattle.filter.specs.declared.ast.AccessSize.the-variants.{Byte, Half, Word}
 use Rattle.filter.specs.declared.ast.MaybeId.{MaybeId}
 use Rattle.filter.specs.declared.ast.MaybeId.the-variants.{NoId, SomeId}
 use Rattle.filter.specs.declared.ast.MaybeLabel.the-variants.{NoLabel, SomeLabel}
 use Rattle.filter.specs.declared.ast.CmpOp.{CmpOp}
 use Rattle.filter.specs.declared.ast.CmpOp.the-variants.{Eq, BitAnd}
-use Rattle.checks.specs.Refusal.{etherRefusal}
+use Rattle.checks.specs.Refusal.{etherless, unlessEther, etherRefusal}
 use Rattle.meaning.specs.Frame.{there, number, passes}
-use Rattle.meaning.specs.Meaning.{bytesOf, compared, ethertype, tagged, ip, ip6, vlan, mpls, pppoe}
+use Rattle.meaning.specs.Meaning.{bytesOf, compared, ethertypeAt, ethertype, taggedAt, tagged, ip, ip6, vlan, mpls, pppoe}
 use Rattle.program.specs.Kinds.{rsh32}
 use Rattle.program.specs.Ends.{Frame}
 use Rattle.program.proofs.Registers.{r2, r3, r4}
@@ -41,8 +42,9 @@ use Rattle.sound.proofs.Pieces.{both, no-code, decides, forgets}
 use Rattle.sound.proofs.Loads.{number-low}
 use Rattle.sound.proofs.Compares.{takes-always, reads, reads-equal, compares-with, equal-either}
 use Rattle.sound.proofs.Fields.{computes, field, checks}
-use Rattle.codegen.proofs.Halves.{net-low}
-use Rattle.sound.proofs.Ethertypes.{not-on-raw, ethertype-means, is-ip}
+use Rattle.filter.proofs.Links.{Low, net-low, ether-low}
+use Rattle.filter.proofs.Links.Low.{below, absent}
+use Rattle.sound.proofs.Ethertypes.{ethertype-means, is-ip}
 use Rattle.sound.proofs.Addresses.{masks, changed-field}
 
 -- The lowest bit is set or not.
@@ -110,52 +112,81 @@ module _ {frame : List ℕ} {start : ℕ} (w : Frame frame start) where
         both (ethertype-means w mode link 0x86dd (omega arith) e)
         (λ t. checks w Byte (netOffset link + 24) (reads-equal (takes-always mode (omega arith))) (omega arith))
 
-  -- "Vlan: 0x8100, low 12 bits of the half at 14."
+  -- "Vlan: 0x8100, low 12 bits of the half at 14": of the half behind the ethertype, where there is one.
+  vlan-tag : (mode : ℕ) (link : LinkType) (n : ℕ) → n < 65536 → (e : EtherOffset) → Low e → etherless e 11 ≡ 0
+      → Tests frame start (vlan-id mode link e (SomeId n)) (taggedAt link frame e 2 2 (λ h. eqb n (h % 4096)))
+  unfolding passes bytesOf
+  vlan-tag mode link n m (At off) (below h) r =
+      decides (changed-field w (reads-equal (takes-always mode (omega arith))) (masks 0x0fff (omega arith)) Half (off + 2) (omega arith))
+      (rw (and-mask (number frame 2 (off + 2)) 12))
+  vlan-tag mode link n m Nowhere absent r = absurd (omega arith)
+
+  no-vlan-tag : (mode : ℕ) (link : LinkType) (e : EtherOffset) → Tests frame start (vlan-id mode link e NoId) true
+  no-vlan-tag mode link (At off) = no-code
+  no-vlan-tag mode link Nowhere = no-code
+
   pub vlan-means : (mode : ℕ) (link : LinkType) (id : MaybeId) → FineId id → etherRefusal link 0x8100 ≡ 0
       → Tests frame start (emit-vlan mode link id) (vlan link frame id)
-  unfolding emit-vlan vlan tagged etherProtoOffset bytesOf passes
-  vlan-means mode Ethernet NoId m e = decides (both (ethertype-means w mode Ethernet 0x8100 (omega arith) e) (λ t. no-code)) (and-true _)
-  vlan-means mode Ethernet (SomeId n) m e =
-      decides (both (ethertype-means w mode Ethernet 0x8100 (omega arith) e)
-      (λ t. changed-field w (reads-equal (takes-always mode (omega arith))) (masks 0x0fff (omega arith)) Half 14 (omega arith)))
-      (rw (and-mask (number frame 2 14) 12))
-  vlan-means mode RawIp id m e = absurd (not-on-raw 0x8100 refl e)
+  unfolding emit-vlan vlan tagged etherRefusal unlessEther
+  vlan-means mode link NoId m r =
+      decides (both (ethertype-means w mode link 0x8100 (omega arith) r) (λ t. no-vlan-tag mode link (etherProtoOffset link))) (and-true _)
+  vlan-means mode link (SomeId n) m r =
+      both (ethertype-means w mode link 0x8100 (omega arith) r) (λ t. vlan-tag mode link n m (etherProtoOffset link) (ether-low link) r)
 
   -- "PPPoE session: 0x8864, half at 16".
+  session-tag : (mode : ℕ) (link : LinkType) (n : ℕ) → n < 65536 → (e : EtherOffset) → Low e → etherless e 11 ≡ 0
+      → Tests frame start (session-id mode link e (SomeId n)) (taggedAt link frame e 2 4 (eqb n))
+  unfolding bytesOf
+  session-tag mode link n m (At off) (below h) r = checks w Half (off + 4) (reads-equal (takes-always mode (omega arith))) (omega arith)
+  session-tag mode link n m Nowhere absent r = absurd (omega arith)
+
+  no-session-tag : (mode : ℕ) (link : LinkType) (e : EtherOffset) → Tests frame start (session-id mode link e NoId) true
+  no-session-tag mode link (At off) = no-code
+  no-session-tag mode link Nowhere = no-code
+
   pub pppoe-means : (mode : ℕ) (link : LinkType) (id : MaybeId) → FineId id → etherRefusal link 0x8864 ≡ 0
       → Tests frame start (emit-pppoe-session mode link id) (pppoe link frame id)
-  unfolding emit-pppoe-session pppoe tagged etherProtoOffset bytesOf
-  pppoe-means mode Ethernet NoId m e = decides (both (ethertype-means w mode Ethernet 0x8864 (omega arith) e) (λ t. no-code)) (and-true _)
-  pppoe-means mode Ethernet (SomeId n) m e =
-      both (ethertype-means w mode Ethernet 0x8864 (omega arith) e)
-      (λ t. checks w Half 16 (reads-equal (takes-always mode (omega arith))) (omega arith))
-  pppoe-means mode RawIp id m e = absurd (not-on-raw 0x8864 refl e)
+  unfolding emit-pppoe-session pppoe tagged etherRefusal unlessEther
+  pppoe-means mode link NoId m r =
+      decides (both (ethertype-means w mode link 0x8864 (omega arith) r) (λ t. no-session-tag mode link (etherProtoOffset link))) (and-true _)
+  pppoe-means mode link (SomeId n) m r =
+      both (ethertype-means w mode link 0x8864 (omega arith) r) (λ t. session-tag mode link n m (etherProtoOffset link) (ether-low link) r)
 
-  -- "MPLS: 0x8847 or 0x8848", on Ethernet, before whatever is asked of the label.
-  mpls-type : {ys : List Slot} {q : Bool} (mode : ℕ) → Tests frame start ys q
-      → Tests frame start (emit-load Half 12 ++ (skips mode JEQ 0x8847 1 ∷ fails mode JNE 0x8848 ++ ys))
-      ((ethertype Ethernet frame 0x8847 || ethertype Ethernet frame 0x8848) && q)
-  unfolding ethertype etherProtoOffset passes bytesOf fails
-  mpls-type mode m =
-      decides (field w Half 12 (omega arith) (both (forgets (equal-either
-      (reads-equal (takes-always mode {k = 0x8847} (omega arith))) (reads-equal (takes-always mode {k = 0x8848} (omega arith))) (number-low w Half 12)))
+  -- "MPLS: 0x8847 or 0x8848", before whatever is asked of the label.
+  mpls-type : {ys : List Slot} {q : Bool} (mode off : ℕ) → off ≤ 16 → Tests frame start ys q
+      → Tests frame start (emit-load Half off ++ (skips mode JEQ 0x8847 1 ∷ fails mode JNE 0x8848 ++ ys))
+      ((passes frame 2 off (eqb 0x8847) || passes frame 2 off (eqb 0x8848)) && q)
+  unfolding passes bytesOf fails
+  mpls-type mode off h m =
+      decides (field w Half off (omega arith) (both (forgets (equal-either
+      (reads-equal (takes-always mode {k = 0x8847} (omega arith))) (reads-equal (takes-always mode {k = 0x8848} (omega arith))) (number-low w Half off)))
       (λ t. m)))
-      (either-type (there frame 2 12) _ _ _)
+      (either-type (there frame 2 off) _ _ _)
 
   shifts-down : Changes frame start (fixed (alu32-imm RSH 4 12) ∷ []) (λ x. x / 4096)
   unfolding alu32
   shifts-down = record { makes = λ x l. computes (rsh32 (omega arith)) l; stays-low = λ x l. omega arith }
 
-  -- "top 20 bits of the word at 14."
-  pub mpls-means : (mode : ℕ) → Tests frame start (emit-mpls mode Ethernet NoLabel) (mpls Ethernet frame NoLabel)
-  unfolding emit-mpls mpls etherProtoOffset
-  mpls-means mode = decides (mpls-type mode no-code) (and-true _)
+  -- "top 20 bits of the word at 14": of the word behind the ethertype, where there is one.
+  pub mpls-means : (mode : ℕ) (link : LinkType) → unlessEther link 15 ≡ 0 → Tests frame start (emit-mpls mode link NoLabel) (mpls link frame NoLabel)
+  unfolding emit-mpls mpls ethertype unlessEther
+  mpls-means mode link r = go (etherProtoOffset link) (ether-low link) r
+    where
+      go : (e : EtherOffset) → Low e → etherless e 15 ≡ 0
+          → Tests frame start (mpls-at mode link e NoLabel) (ethertypeAt link frame e 0x8847 || ethertypeAt link frame e 0x8848)
+      go (At off) (below h) q = decides (mpls-type mode off h no-code) (and-true _)
+      go Nowhere absent q = absurd (omega arith)
 
-  pub mpls-label-means : {mode : ℕ} {test : ℕ → Bool} (label : ℕ) → Reads mode Eq label test
-      → Tests frame start (emit-mpls mode Ethernet (SomeLabel label))
-      ((ethertype Ethernet frame 0x8847 || ethertype Ethernet frame 0x8848) && passes frame 4 14 (λ x. test (x / 4096)))
-  unfolding emit-mpls etherProtoOffset bytesOf
-  mpls-label-means {mode} label r = mpls-type mode (changed-field w r shifts-down Word 14 (omega arith))
+  pub mpls-label-means : {mode : ℕ} {test : ℕ → Bool} (link : LinkType) (label : ℕ) → unlessEther link 15 ≡ 0 → Reads mode Eq label test
+      → Tests frame start (emit-mpls mode link (SomeLabel label))
+      ((ethertype link frame 0x8847 || ethertype link frame 0x8848) && tagged link frame 4 2 (λ x. test (x / 4096)))
+  unfolding emit-mpls ethertype tagged bytesOf unlessEther
+  mpls-label-means {mode} {test} link label r reads = go (etherProtoOffset link) (ether-low link) r
+    where
+      go : (e : EtherOffset) → Low e → etherless e 15 ≡ 0 → Tests frame start (mpls-at mode link e (SomeLabel label))
+          ((ethertypeAt link frame e 0x8847 || ethertypeAt link frame e 0x8848) && taggedAt link frame e 4 2 (λ x. test (x / 4096)))
+      go (At off) (below h) q = mpls-type mode off h (changed-field w reads shifts-down Word (off + 2) (omega arith))
+      go Nowhere absent q = absurd (omega arith)
 
   -- The length: R3 less R2.
   pub len-means : {mode k : ℕ} {test : ℕ → Bool} (link : LinkType) (op : CmpOp) → Reads mode op k test

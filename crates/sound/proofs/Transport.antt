@@ -18,7 +18,8 @@ use Rattle.pieces.specs.Fragments.{past, transport, fails}
 use Rattle.codegen.specs.Primitives.{emit-l4-proto-check, prereqs-v4, prereqs-v6, emit-port-prereqs}
 use Rattle.filter.specs.Ast.{etherProtoOffset, netOffset}
 use Rattle.filter.specs.declared.ast.LinkType.{LinkType}
-use Rattle.filter.specs.declared.ast.LinkType.the-variants.{Ethernet, RawIp}
+use Rattle.filter.specs.declared.ast.EtherOffset.{EtherOffset}
+use Rattle.filter.specs.declared.ast.EtherOffset.the-variants.{At, Nowhere}
 use Rattle.filter.specs.declared.ast.AccessSize.the-variants.{Byte, Half}
 use Rattle.filter.specs.declared.ast.Proto.the-variants.{Ip, Ip6, Arp, Rarp, Tcp, Udp, Icmp, Icmp6, Igmp, Sctp, Num, Ip6Proto}
 use Rattle.filter.specs.declared.ast.MaybeProto.{MaybeProto}
@@ -40,7 +41,8 @@ use Rattle.sound.proofs.Pieces.{both, decides, forgets, forgets-on-fail
 use Rattle.sound.proofs.Loads.{loads, guards, number1-low, number-low}
 use Rattle.sound.proofs.Compares.{takes-always, reads-equal, fails-unless-equal, equal-either, two-ways}
 use Rattle.sound.proofs.Fields.{field, checks}
-use Rattle.codegen.proofs.Halves.{net-low}
+use Rattle.filter.proofs.Links.{Low, net-low, ether-low}
+use Rattle.filter.proofs.Links.Low.{below, absent}
 use Rattle.sound.proofs.Ethertypes.{not-both}
 
 -- "four times the low four bits".
@@ -48,13 +50,13 @@ header-length : (x : ℕ) → alu32 LSH (alu32 AND x 0x0f) 2 ≡ 4 * (x % 16)
 unfolding alu32
 header-length x = rw (and-mask x 4) (omega arith)
 
-pub start4-low : (link : LinkType) (frame : List ℕ) → start4 link frame ≤ 74
+pub start4-low : (link : LinkType) (frame : List ℕ) → start4 link frame ≤ 76
 unfolding start4
 start4-low link frame = let near = net-low link in omega arith
 
 module _ {frame : List ℕ} {start : ℕ} (w : Frame frame start) where
   -- From byte net in R4 to the transport header in R6.
-  to-header : {else : Known} (net x : ℕ) → net ≤ 14 → x < 256
+  to-header : {else : Known} (net x : ℕ) → net ≤ 16 → x < 256
       → Piece frame start falls (knows (some x) none) (knows none (some (start + (net + 4 * (x % 16))))) else
       (fixed (alu32-imm AND 4 0x0f) ∷ fixed (alu32-imm LSH 4 2) ∷ fixed (alu64-reg MOV 6 2) ∷ fixed (alu64-imm ADD 6 net) ∷ fixed (alu64-reg ADD 6 4) ∷ []) true
   unfolding filled
@@ -147,33 +149,43 @@ module _ {frame : List ℕ} {start : ℕ} (w : Frame frame start) where
 
   -- "IPv4 or IPv6 (RawIp: IPv4 only)": the transport header that ports stand in.
   pub header-comes : (mode : ℕ) (link : LinkType) (proto : MaybeProto) → portRefusal proto ≡ 0 → Header frame start mode link proto
-  unfolding emit-port-prereqs ip ip6 ethertype etherProtoOffset passes bytesOf past fails
-  header-comes mode Ethernet proto e =
-      let x : ℕ = number frame 2 12 in
-      let low = number-low w Half 12 in
-      let s : ℕ = start4 Ethernet frame in
-      let s′ : ℕ = start6 Ethernet frame in
-      let p = passes frame 1 (netOffset Ethernet + 9) (l4 proto) in
-      let p′ = passes frame 1 (netOffset Ethernet + 6) (l4 proto) in
-      let b = there frame 1 (netOffset Ethernet) in
-      record {
-        place = cond (eqb 0x0800 x) s s′;
-        found = there frame 2 12 && cond (eqb 0x0800 x) (p && (b && there frame 4 s)) (eqb 0x86dd x && (p′ && there frame 4 s′));
-        comes = both (loads w Half 12 (omega arith)) (λ t. two-ways (λ four. knows none (some (start + cond four s s′)))
-            (reads-equal (takes-always mode {k = 0x0800} (omega arith))) low (ignores (four-comes w mode Ethernet proto e))
-            (both (forgets (fails-unless-equal (reads-equal (takes-always mode {k = 0x86dd} (omega arith))) low)) (λ t. six-comes w mode Ethernet proto e)));
-        room = λ t. four-there (cond (eqb 0x0800 x) s s′) (block-room (there frame 4) (there frame 2 12) (eqb 0x0800 x) (eqb 0x86dd x) p b p′ s s′ t);
-        exact = λ test. by-block (there frame 2 12) (eqb 0x0800 x) (eqb 0x86dd x) p b (there frame 4 s) p′ (there frame 4 s′) test s s′
-            (not-both 0x0800 0x86dd x refl);
-      }
-  header-comes mode RawIp proto e =
-      let s : ℕ = start4 RawIp frame in
-      let p = passes frame 1 (netOffset RawIp + 9) (l4 proto) in
-      let b = there frame 1 (netOffset RawIp) in
-      record {
-        place = s;
-        found = p && (b && there frame 4 s);
-        comes = four-comes w mode RawIp proto e;
-        room = λ t. four-there s (second-true b (there frame 4 s) (second-true p (b && there frame 4 s) t));
-        exact = λ test. one-block p b (there frame 4 s) (test s);
-      }
+  unfolding emit-port-prereqs ip ip6 ethertype passes bytesOf past fails
+  header-comes mode link proto r = go (etherProtoOffset link) refl (ether-low link)
+    where
+      s : ℕ
+      s = start4 link frame
+
+      s′ : ℕ
+      s′ = start6 link frame
+
+      p : Bool
+      p = passes frame 1 (netOffset link + 9) (l4 proto)
+
+      p′ : Bool
+      p′ = passes frame 1 (netOffset link + 6) (l4 proto)
+
+      b : Bool
+      b = there frame 1 (netOffset link)
+
+      go : (e : EtherOffset) → etherProtoOffset link ≡ e → Low e → Header frame start mode link proto
+      go (At off) q (below h) =
+          let x : ℕ = number frame 2 off in
+          let small = number-low w Half off in
+          record {
+            place = cond (eqb 0x0800 x) s s′;
+            found = there frame 2 off && cond (eqb 0x0800 x) (p && (b && there frame 4 s)) (eqb 0x86dd x && (p′ && there frame 4 s′));
+            comes = rw q (both (loads w Half off (omega arith)) (λ t. two-ways (λ four. knows none (some (start + cond four s s′)))
+                (reads-equal (takes-always mode {k = 0x0800} (omega arith))) small (ignores (four-comes w mode link proto r))
+                (both (forgets (fails-unless-equal (reads-equal (takes-always mode {k = 0x86dd} (omega arith))) small)) (λ t. six-comes w mode link proto r))));
+            room = λ t. four-there (cond (eqb 0x0800 x) s s′) (block-room (there frame 4) (there frame 2 off) (eqb 0x0800 x) (eqb 0x86dd x) p b p′ s s′ t);
+            exact = λ test. rw q (by-block (there frame 2 off) (eqb 0x0800 x) (eqb 0x86dd x) p b (there frame 4 s) p′ (there frame 4 s′) test s s′
+                (not-both 0x0800 0x86dd x refl));
+          }
+      go Nowhere q absent =
+          record {
+            place = s;
+            found = p && (b && there frame 4 s);
+            comes = rw q (four-comes w mode link proto r);
+            room = λ t. four-there s (second-true b (there frame 4 s) (second-true p (b && there frame 4 s) t));
+            exact = λ test. rw q (one-block p b (there frame 4 s) (test s));
+          }

@@ -4,6 +4,8 @@
 pub enum LinkType {
     Ethernet,
     RawIp,
+    /// Linux's cooked header, which the Rust does not know: where its ethertype and its network header stand is all that the generator asks.
+    Cooked,
 }
 
 impl LinkType {
@@ -11,6 +13,7 @@ impl LinkType {
         match self {
             LinkType::Ethernet => Some(12),
             LinkType::RawIp => None,
+            LinkType::Cooked => Some(14),
         }
     }
 
@@ -18,6 +21,7 @@ impl LinkType {
         match self {
             LinkType::Ethernet => 14,
             LinkType::RawIp => 0,
+            LinkType::Cooked => 16,
         }
     }
 }

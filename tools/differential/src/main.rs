@@ -67,6 +67,19 @@ impl Messages {
     fn too_long(&self, message: &str) -> bool {
         self.0[0].1 == message
     }
+
+    fn text(&self, number: u32) -> String {
+        self.0.iter().find(|(n, _)| *n == number).unwrap().1.clone()
+    }
+}
+
+/// Which refusal a test of MAC addresses earns on a cooked frame, which has none: document 02's A9. The Rust knows nothing of it.
+fn without_macs(p: &Primitive, link: LinkType) -> Option<u32> {
+    match p {
+        Primitive::EtherHost { .. } if link == LinkType::Cooked => Some(13),
+        Primitive::EtherMulticast if link == LinkType::Cooked => Some(14),
+        _ => None,
+    }
 }
 
 /// A primitive's instructions, 0 if it is refused. One that is too long by itself is a byte access: one instruction a step.
@@ -100,10 +113,15 @@ enum Answer {
 }
 
 fn answer(link: u8, mode: u8, output: usize, work: usize, bytes: &[u8], messages: &Messages) -> Answer {
-    let sheet = match sheet::read(link, mode, bytes) {
+    let mut sheet = match sheet::read(link, mode, bytes) {
         Ok(sheet) => sheet,
         Err(refusal) => return Answer::Refused(refusal),
     };
+    // in place of a test that only we refuse stands one that the Rust refuses as well
+    let ours: Vec<_> = sheet.primitives.iter().map(|p| without_macs(p, sheet.link)).collect();
+    for (p, _) in sheet.primitives.iter_mut().zip(&ours).filter(|(_, refused)| refused.is_some()) {
+        *p = Primitive::Inbound;
+    }
     let jumps = sheet.tokens.iter().filter(|&&t| t > 1).count();
     let length = 6 + jumps + sheet.primitives.iter().map(|p| count(p, sheet.link, messages)).sum::<usize>();
     if output < 8 * length {
@@ -123,7 +141,10 @@ fn answer(link: u8, mode: u8, output: usize, work: usize, bytes: &[u8], messages
             let fails = |p: &Primitive| alone(p, sheet.link).err().filter(|m| !messages.too_long(m));
             let (place, text) = sheet.primitives.iter().map(fails).enumerate().find_map(|(i, m)| Some((i, m?))).unwrap();
             assert_eq!(text, message, "another primitive was refused");
-            Answer::Told((messages.number(&message, &sheet.primitives[place]), place), message)
+            match ours[place] {
+                Some(number) => Answer::Told((number, place), messages.text(number)),
+                None => Answer::Told((messages.number(&message, &sheet.primitives[place]), place), message),
+            }
         }
     }
 }

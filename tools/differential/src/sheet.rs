@@ -211,6 +211,7 @@ pub fn read(link: u8, mode: u8, mut sheet: &[u8]) -> Result<Sheet, Refusal> {
     let link = match link {
         0 => LinkType::Ethernet,
         1 => LinkType::RawIp,
+        2 => LinkType::Cooked,
         _ => return Err((1, 0)),
     };
     if mode > 1 {

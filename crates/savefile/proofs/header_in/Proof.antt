@@ -23,7 +23,11 @@ returns-3 c = rw (le-ltb _ _ (c .before .before .if1 .left), ← c .before .numb
 
 returns-4 : tie.Need-returns-4
 unfolding headerIn
-returns-4 c = rw (le-ltb _ _ (c .before .before .if1 .left), ← c .before .number-at .ensures, ne-eqb _ _ (c .match .rest .0 .1), ne-eqb _ _ (c .match .rest .1)) refl
+returns-4 c = rw (le-ltb _ _ (c .before .before .if1 .left), ← c .before .number-at .ensures, c .match .keys3) refl
+
+returns-5 : tie.Need-returns-5
+unfolding headerIn
+returns-5 c = rw (le-ltb _ _ (c .before .before .if1 .left), ← c .before .number-at .ensures, ne-eqb _ _ (c .match .rest .0 .0 .1), ne-eqb _ _ (c .match .rest .0 .1), ne-eqb _ _ (c .match .rest .1)) refl
 
 pub header-in-spec : {M : Type 1} → statement M
-header-in-spec = tie.close (tie.spec returns number-at-requires returns-2 returns-3 returns-4)
+header-in-spec = tie.close (tie.spec returns number-at-requires returns-2 returns-3 returns-4 returns-5)

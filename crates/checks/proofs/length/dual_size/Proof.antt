@@ -3,6 +3,9 @@ use borrow.Author.Needs.{needs}
 use Rattle.checks.proofs.length.dual_size.Statement.{statement}
 use Rattle.checks.proofs.length.dual_size.Tie as tie
 
+ether-proto-offset-requires : tie.Need-ether-proto-offset-requires
+ether-proto-offset-requires c κs = search needs
+
 enum-told : tie.Need-enum-told
 enum-told c = search needs
 
@@ -11,11 +14,11 @@ enum-told-2 c = search needs
 
 returns : tie.Need-returns
 unfolding dualSize
-returns c = rw (c .enum-told .given .1)
+returns c = rw (← c .before .before .ether-proto-offset .ensures, c .enum-told .given .1)
 
 returns-2 : tie.Need-returns-2
 unfolding dualSize
-returns-2 c = rw (c .enum-told2 .given .1)
+returns-2 c = rw (← c .before .before .ether-proto-offset .ensures, c .enum-told2 .given .1)
 
 pub dual-size-spec : {M : Type 1} → statement M
-dual-size-spec = tie.close (tie.spec enum-told enum-told-2 returns returns-2)
+dual-size-spec = tie.close (tie.spec ether-proto-offset-requires enum-told enum-told-2 returns returns-2)

@@ -4,8 +4,8 @@ use borrow.Author.Needs.{needs}
 use Rattle.checks.proofs.refusal.ether_refusal.Statement.{statement}
 use Rattle.checks.proofs.refusal.ether_refusal.Tie as tie
 
-on-raw-requires : tie.Need-on-raw-requires
-on-raw-requires c κs = search needs
+unless-ether-requires : tie.Need-unless-ether-requires
+unless-ether-requires c κs = search needs
 
 returns : tie.Need-returns
 unfolding etherRefusal
@@ -13,7 +13,7 @@ returns c = rw (eq-eqb _ _ (c .if1 .taken))
 
 returns-2 : tie.Need-returns-2
 unfolding etherRefusal
-returns-2 c = rw (ne-eqb _ _ (c .before .if1 .left), c .on-raw .ensures)
+returns-2 c = rw (ne-eqb _ _ (c .before .if1 .left), c .unless-ether .ensures)
 
 pub ether-refusal-spec : {M : Type 1} → statement M
-ether-refusal-spec = tie.close (tie.spec on-raw-requires returns returns-2)
+ether-refusal-spec = tie.close (tie.spec unless-ether-requires returns returns-2)

@@ -42,8 +42,8 @@ proto-refusal-requires c κs = search needs
 enum-told-5 : tie.Need-enum-told-5
 enum-told-5 c = search needs
 
-on-raw-requires : tie.Need-on-raw-requires
-on-raw-requires c κs = search needs
+unless-macs-requires : tie.Need-unless-macs-requires
+unless-macs-requires c κs = search needs
 
 enum-known-prim-4 : tie.Need-enum-known-prim-4
 enum-known-prim-4 c = search needs
@@ -54,8 +54,8 @@ ether-refusal-requires-3 c κs = search needs
 enum-told-6 : tie.Need-enum-told-6
 enum-told-6 c = search needs
 
-on-raw-requires-2 : tie.Need-on-raw-requires-2
-on-raw-requires-2 c κs = search needs
+unless-macs-requires-2 : tie.Need-unless-macs-requires-2
+unless-macs-requires-2 c κs = search needs
 
 enum-told-7 : tie.Need-enum-told-7
 enum-told-7 c = search needs
@@ -78,8 +78,8 @@ ether-refusal-requires-5 c κs = search needs
 enum-told-11 : tie.Need-enum-told-11
 enum-told-11 c = search needs
 
-on-raw-requires-3 : tie.Need-on-raw-requires-3
-on-raw-requires-3 c κs = search needs
+unless-ether-requires : tie.Need-unless-ether-requires
+unless-ether-requires c κs = search needs
 
 enum-told-12 : tie.Need-enum-told-12
 enum-told-12 c = search needs
@@ -147,7 +147,7 @@ returns-7 c = rw (c .before .before .prim3 .given .1, c .proto-refusal .ensures)
 
 returns-8 : tie.Need-returns-8
 unfolding refusal
-returns-8 c = rw (c .before .enum-told5 .given .1, c .on-raw .ensures)
+returns-8 c = rw (c .before .enum-told5 .given .1, c .unless-macs .ensures)
 
 returns-9 : tie.Need-returns-9
 unfolding refusal
@@ -155,7 +155,7 @@ returns-9 c = rw (c .before .before .prim4 .given .1, c .ether-refusal3 .ensures
 
 returns-10 : tie.Need-returns-10
 unfolding refusal
-returns-10 c = rw (c .before .enum-told6 .given .1, c .on-raw2 .ensures)
+returns-10 c = rw (c .before .enum-told6 .given .1, c .unless-macs2 .ensures)
 
 returns-11 : tie.Need-returns-11
 unfolding refusal
@@ -175,7 +175,7 @@ returns-14 c = rw (c .before .enum-told10 .given .1, c .ether-refusal5 .ensures)
 
 returns-15 : tie.Need-returns-15
 unfolding refusal
-returns-15 c = rw (c .before .enum-told11 .given .1, c .on-raw3 .ensures)
+returns-15 c = rw (c .before .enum-told11 .given .1, c .unless-ether .ensures)
 
 returns-16 : tie.Need-returns-16
 unfolding refusal
@@ -226,11 +226,11 @@ refusal-of-spec =
     enum-known-prim-3
     proto-refusal-requires
     enum-told-5
-    on-raw-requires
+    unless-macs-requires
     enum-known-prim-4
     ether-refusal-requires-3
     enum-told-6
-    on-raw-requires-2
+    unless-macs-requires-2
     enum-told-7
     enum-told-8
     enum-told-9
@@ -238,7 +238,7 @@ refusal-of-spec =
     enum-told-10
     ether-refusal-requires-5
     enum-told-11
-    on-raw-requires-3
+    unless-ether-requires
     enum-told-12
     ether-refusal-requires-6
     enum-told-13

@@ -9,7 +9,8 @@ use Rattle.filter.specs.Ast.{netOffset}
 use Rattle.filter.specs.declared.ast.LinkType.{LinkType}
 use Rattle.filter.specs.declared.ast.Ipv6Addr.{Ipv6Addr}
 use Rattle.codegen.specs.Primitives.{check-net6}
-use Rattle.codegen.proofs.Halves.{Inner, Outer, half-leads, half-next, halves-done, start, end-fits, side-leads, over-fits, side-next, sides-done, net-low}
+use Rattle.codegen.proofs.Halves.{Inner, Outer, half-leads, half-next, halves-done, start, end-fits, side-leads, over-fits, side-next, sides-done}
+use Rattle.filter.proofs.Links.{net-low}
 use borrow.Author.Needs.{needs}
 use Rattle.codegen.proofs.ip6.check_sides.Statement.{statement}
 use Rattle.codegen.proofs.ip6.check_sides.Tie as tie

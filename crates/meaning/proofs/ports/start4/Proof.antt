@@ -1,4 +1,4 @@
--- The network header starts below 15, and is at most 60 bytes long.
+-- The network header starts within 16 bytes, and is at most 60 bytes long.
 use Rattle.checks.proofs.Checks.{net-small}
 use Rattle.meaning.specs.Meaning.{start4}
 use native.Mathlib.Nat.{add-zero}

@@ -1,29 +1,18 @@
--- One case a link.
-use Rattle.filter.specs.Ast.{netOffset}
+-- No link's header starts far from the frame's start.
+use native.Mathlib.Omega.{arith}
+use Rattle.filter.proofs.Links.{net-low}
 use borrow.Author.Needs.{needs}
 use Rattle.pieces.proofs.ether.net_plus.Statement.{statement}
 use Rattle.pieces.proofs.ether.net_plus.Tie as tie
 
-enum-told : tie.Need-enum-told
-enum-told c = search needs
+net-offset-requires : tie.Need-net-offset-requires
+net-offset-requires c κs = search needs
 
 add-result : tie.Need-add-result
-add-result c = search needs
-
-enum-told-2 : tie.Need-enum-told-2
-enum-told-2 c = search needs
-
-add-result-2 : tie.Need-add-result-2
-add-result-2 c = search needs
+add-result c = omega (arith, net-low (c .before .args .link), c .net-offset .ensures)
 
 returns : tie.Need-returns
-unfolding netOffset
-returns c = simp (c .enum-told .given .1, c .before .match .keys1)
-
-returns-2 : tie.Need-returns-2
-unfolding netOffset
-returns-2 c = simp (c .enum-told2 .given .1, c .before .match .keys2)
+returns c = rw (c .net-offset .ensures)
 
 pub net-plus-spec : {M : Type 1} → statement M
-net-plus-spec =
-    tie.close (tie.spec enum-told add-result enum-told-2 add-result-2 returns returns-2)
+net-plus-spec = tie.close (tie.spec net-offset-requires add-result returns)

@@ -1,5 +1,7 @@
 // The library that C and Rust programs link: measure, compile, evaluate, run, push the Nots down and count a capture over slices and numbers. Each returns a plain
 // status number and writes the numbers beside it through references; bindings/c/bromaveluth.h declares the same functions in C.
+#![tactic(auto)]
+
 ghost use Rattle.std.specs.Prelude.{◌≡◌, length};
 ghost use Rattle.ebpf.specs.Run.{run_of};
 ghost use Rattle.meaning.specs.Evaluate.{evaluate_of};

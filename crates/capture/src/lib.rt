@@ -1,4 +1,6 @@
 // One compiled filter over a capture from the field (document 02, A1).
+#![tactic(auto)]
+
 ghost use Rattle.std.specs.Prelude.{◌≡◌, ◌+◌, ◌≤◌, ◌<◌, ◌^◌, length};
 ghost use Rattle.savefile.specs.Savefile.{walk_of, header_of, opened_of};
 ghost use Rattle.generator.specs.Compile.{outcome_of, output_after, work_after};
@@ -9,7 +11,7 @@ use generator::{Compiled, compile};
 use savefile::{Next, Opened, next_of, open_file, open_header};
 
 // How many records of each class there are so far.
-#[derive(Drop)]
+#[derive(Clone, Copy)]
 pub struct Tally {
     pub passed: u64,
     pub dropped: u64,
@@ -18,7 +20,7 @@ pub struct Tally {
 
 // A refusal, of the file with the byte where what is refused begins, or one of document 01's with its place; or the counts, and the
 // place behind the last record that was judged.
-#[derive(Drop)]
+#[derive(Clone, Copy)]
 pub enum Captured {
     Refused {
         number: u8,

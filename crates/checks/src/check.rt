@@ -13,7 +13,7 @@ use filter::sheet::{Sections, find_sections};
 use filter::wrong::{first_wrong_record, first_wrong_step, first_wrong_token};
 use tree::{Shape, whole_tree};
 
-#[derive(Drop)]
+#[derive(Clone, Copy)]
 pub enum Checked {
     Refused { number: u8, place: u32 },
     Good { steps: u16, prims: u16, tokens: u16 },

@@ -7,7 +7,7 @@ use crate::length::program_length;
 use filter::ast::link_of;
 
 // A refusal with its place, or what the sheet asks.
-#[derive(Drop)]
+#[derive(Clone, Copy)]
 pub enum Measured {
     Refused {
         number: u8,

@@ -1,4 +1,6 @@
 // Port of ebpf_codegen.rs: the code of each primitive.
+#![tactic(auto)]
+
 mod access;
 mod address;
 mod ip6;

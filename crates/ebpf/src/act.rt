@@ -9,7 +9,7 @@ ghost use Rattle.ebpf.specs.Step.{reg64_act, imm64_act, imm32_act, swap_act, bra
 use crate::insn::Insn;
 use crate::{alu, insn, regs};
 
-#[derive(Drop)]
+#[derive(Clone, Copy)]
 pub enum Act {
     Writes { dst: u8, value: u64 },
     Jumps { off: u16 },

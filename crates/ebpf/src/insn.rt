@@ -96,7 +96,7 @@ pub const XDP_DROP: u32 = 1;
 
 pub const XDP_PASS: u32 = 2;
 
-#[derive(Drop)]
+#[derive(Clone, Copy)]
 pub struct Insn {
     pub code: u8,
     pub regs: u8,
@@ -105,7 +105,7 @@ pub struct Insn {
 }
 
 // What stands at a place of a program.
-#[derive(Drop)]
+#[derive(Clone, Copy)]
 pub enum Fetched {
     Here(Insn),
     Nothing,

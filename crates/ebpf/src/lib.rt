@@ -1,4 +1,6 @@
 // eBPF instructions: their eight bytes, and a machine that carries them out.
+#![tactic(auto)]
+
 pub mod act;
 pub mod alu;
 pub mod insn;

@@ -1,7 +1,7 @@
 // The registers R0 to R6. R1 is the context: it has no number, and its two places are never used.
 ghost use Rattle.std.specs.Prelude.{◌≡◌, true, false, slice_index, slice_index_or, slice_set};
 
-#[derive(Drop)]
+#[derive(Clone, Copy)]
 pub struct Regs {
     pub values: [u64; 7],
     pub written: [bool; 7],

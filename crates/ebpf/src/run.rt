@@ -5,7 +5,7 @@ ghost use Rattle.ebpf.specs.Run.{ended_of, go_of, run_of, first_state};
 use crate::step;
 use crate::step::Status;
 
-#[derive(Drop)]
+#[derive(Clone, Copy)]
 pub struct Outcome {
     pub stop: u8,
     pub r0: u64,

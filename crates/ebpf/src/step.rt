@@ -7,19 +7,19 @@ use crate::act::Act;
 use crate::regs::Regs;
 use crate::{act, alu, insn, regs};
 
-#[derive(Drop)]
+#[derive(Clone, Copy)]
 pub struct State {
     pub regs: Regs,
     pub pc: u64,
 }
 
-#[derive(Drop)]
+#[derive(Clone, Copy)]
 pub enum Status {
     Going,
     Halted { stop: u8, r0: u64 },
 }
 
-#[derive(Drop)]
+#[derive(Clone, Copy)]
 pub struct Turn {
     pub state: State,
     pub status: Status,

@@ -3,7 +3,7 @@ ghost use Rattle.std.specs.Prelude.{◌≡◌};
 ghost use Rattle.filter.specs.Ast.{dir_of, cmp_of, arith_of, layer_of, access_size_of, proto_of, maybe_proto_of, link_of, link_record, ether_proto_offset, net_offset, has_macs};
 
 // Which address or port is tested.
-#[derive(Drop)]
+#[derive(Clone, Copy)]
 pub enum Dir {
     SrcOrDst,
     Src,
@@ -11,7 +11,7 @@ pub enum Dir {
     SrcAndDst,
 }
 
-#[derive(Drop)]
+#[derive(Clone, Copy)]
 pub enum Proto {
     Ip,
     Ip6,
@@ -27,47 +27,47 @@ pub enum Proto {
     Ip6Proto(u8),
 }
 
-#[derive(Drop)]
+#[derive(Clone, Copy)]
 pub enum MaybeProto {
     NoProto,
     SomeProto(Proto),
 }
 
 // A VLAN's or a PPPoE session's number, if one is asked.
-#[derive(Drop)]
+#[derive(Clone, Copy)]
 pub enum MaybeId {
     NoId,
     SomeId(u16),
 }
 
-#[derive(Drop)]
+#[derive(Clone, Copy)]
 pub enum MaybeLabel {
     NoLabel,
     SomeLabel(u32),
 }
 
 // The first eight bytes of the address, and the last eight.
-#[derive(Drop)]
+#[derive(Clone, Copy)]
 pub struct Ipv6Addr {
     pub hi: u64,
     pub lo: u64,
 }
 
 // Any mask, not only a prefix's.
-#[derive(Drop)]
+#[derive(Clone, Copy)]
 pub struct IpNet {
     pub addr: u32,
     pub mask: u32,
 }
 
 // A prefix above 128 acts as 128.
-#[derive(Drop)]
+#[derive(Clone, Copy)]
 pub struct Ipv6Net {
     pub addr: Ipv6Addr,
     pub prefix_len: u8,
 }
 
-#[derive(Drop)]
+#[derive(Clone, Copy)]
 pub enum ArithOp {
     Add,
     Sub,
@@ -81,7 +81,7 @@ pub enum ArithOp {
     Shr,
 }
 
-#[derive(Drop)]
+#[derive(Clone, Copy)]
 pub enum CmpOp {
     Eq,
     Ne,
@@ -92,14 +92,14 @@ pub enum CmpOp {
     BitAnd,
 }
 
-#[derive(Drop)]
+#[derive(Clone, Copy)]
 pub enum AccessSize {
     Byte,
     Half,
     Word,
 }
 
-#[derive(Drop)]
+#[derive(Clone, Copy)]
 pub enum Layer {
     Raw,
     Net,
@@ -107,28 +107,28 @@ pub enum Layer {
 }
 
 // The offset is a signed number's 32 bits.
-#[derive(Drop)]
+#[derive(Clone, Copy)]
 pub struct ByteLoad {
     pub layer: Layer,
     pub offset: u32,
     pub size: AccessSize,
 }
 
-#[derive(Drop)]
+#[derive(Clone, Copy)]
 pub enum CmpRhs {
     Const(u32),
     Load(ByteLoad),
 }
 
 // An operation on the loaded value.
-#[derive(Drop)]
+#[derive(Clone, Copy)]
 pub struct Step {
     pub op: ArithOp,
     pub operand: u32,
 }
 
 // `steps` is how many steps it takes next from the steps section.
-#[derive(Drop)]
+#[derive(Clone, Copy)]
 pub struct ByteAccess {
     pub layer: Layer,
     pub offset: u32,
@@ -139,7 +139,7 @@ pub struct ByteAccess {
 }
 
 // A leaf of the filter tree.
-#[derive(Drop)]
+#[derive(Clone, Copy)]
 pub enum Primitive {
     Host {
         addr: u32,
@@ -199,7 +199,7 @@ pub enum Primitive {
     ByteAccess(ByteAccess),
 }
 
-#[derive(Drop)]
+#[derive(Clone, Copy)]
 pub enum LinkType {
     Ethernet,
     RawIp,
@@ -207,14 +207,14 @@ pub enum LinkType {
 }
 
 // Where the ethertype stands, if the link has one.
-#[derive(Drop)]
+#[derive(Clone, Copy)]
 pub enum EtherOffset {
     At(u32),
     Nowhere,
 }
 
 // What a link is to a filter: all that is asked of it stands here.
-#[derive(Drop)]
+#[derive(Clone, Copy)]
 pub struct Link {
     pub ethertype: EtherOffset,
     pub net: u32,

@@ -4,7 +4,7 @@ ghost use Rattle.filter.specs.Sheet.{sections_of};
 
 use crate::bytes::count_at;
 
-#[derive(Drop)]
+#[derive(Clone, Copy)]
 pub enum Sections {
     Found { steps: u16, prims: u16, tokens: u16 },
     Wrong,

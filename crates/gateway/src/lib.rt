@@ -1,4 +1,6 @@
 // A sheet compiled and a frame judged by its program, in mended mode: what stands above needs to know no more.
+#![tactic(auto)]
+
 ghost use Rattle.std.specs.Prelude.{◌≡◌, length};
 ghost use Rattle.generator.specs.Compile.{outcome_of, answer_of, output_after, work_after};
 ghost use Rattle.sound.specs.Demand.{sheet_holds};
@@ -8,7 +10,7 @@ use ebpf::run::run;
 use generator::{Compiled, compile};
 
 // A refusal of document 01 with its place, a frame longer than the machine takes, or the verdict.
-#[derive(Drop)]
+#[derive(Clone, Copy)]
 pub enum Judged {
     Refused { number: u8, place: usize },
     Long,

@@ -1,7 +1,7 @@
 -- Any two answers that a public function's contract allows are equal: the result, and the last value of everything lent.
 use mathlib.Core.Path.{sym, ◌∙◌}
 use Rattle.unique.proofs.Unique.{Unique, unique, plain, beside}
-use Rattle.generator.proofs as crate
+use Rattle.generator.specs.contracts as crate
 
-pub compile : Unique crate.compile.ended (λ M 𝓤. crate.compile.clauses 𝓤)
+pub compile : Unique crate.compile.ended (λ M 𝓤 𝓛. crate.compile.clauses 𝓛)
 compile = unique (beside _ (beside _ (plain _))) (λ κs a r r' ws ws' p q. (p.0 ∙ sym q.0, λ i. (tt, (tt, (tt, ((p.1.0 ∙ sym q.1.0) i, ((p.1.1 ∙ sym q.1.1) i, tt)))))))

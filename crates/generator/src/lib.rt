@@ -1,4 +1,6 @@
 // `emit_expr` and `compile` of ebpf_codegen.rs: the walk over the tokens, and the whole program.
+#![tactic(auto)]
+
 ghost use Rattle.std.specs.Prelude.{◌≡◌, [], ◌+◌, ◌*◌, ◌^◌, ◌<◌, ◌≤◌, length};
 ghost use Rattle.patches.specs.Chain.{Descends, chain_of};
 ghost use Rattle.patches.specs.Code.{em, block};
@@ -23,7 +25,7 @@ use filter::record::primitive_at;
 use patches::{Finished, PatchList, Patched, Patches, finish, push, resolve_all, save};
 
 // A refusal of document 01 with its place, or the number of the program's instructions.
-#[derive(Drop)]
+#[derive(Clone, Copy)]
 pub enum Compiled {
     Refused { number: u8, place: usize },
     Program { length: usize },

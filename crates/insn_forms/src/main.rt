@@ -1,5 +1,7 @@
 // Instructions that an outside assembler made (standard input, tests/insn), beside this project's constructors: the
 // fields and the bytes of each are compared.
+#![tactic(auto)]
+
 ghost use Rattle.std.specs.Prelude.{◌≤◌};
 
 use ebpf::insn::{Fetched, Insn};

@@ -8,14 +8,14 @@ use ebpf::step;
 use ebpf::step::{State, Status, Turn};
 
 // Where a step leads and how it went: all of its turn but the registers.
-#[derive(Drop)]
+#[derive(Clone, Copy)]
 pub struct Moved {
     pub pc: u64,
     pub status: Status,
 }
 
 // A turn, its registers apart from the rest.
-#[derive(Drop)]
+#[derive(Clone, Copy)]
 pub(crate) struct Apart {
     regs: Regs,
     moved: Moved,

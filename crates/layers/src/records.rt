@@ -13,7 +13,7 @@ const EMPTY: Insn = Insn {
 };
 
 // How a run was filled: with so many records; or not at all, as the bytes are no whole records, or more than the run has.
-#[derive(Drop)]
+#[derive(Clone, Copy)]
 pub enum Filled {
     Records(usize),
     NotWhole,

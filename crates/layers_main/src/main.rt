@@ -1,4 +1,6 @@
 // Runs both layers on K2's program beside the forms by value, and prints what each gives and whether they are the same.
+#![tactic(auto)]
+
 ghost use Rattle.std.specs.Prelude.{◌≡◌, length};
 ghost use Rattle.layers_main.specs.Decides.{Decides};
 
@@ -12,7 +14,7 @@ use layers::{place, records};
 const START: u64 = 4096;
 
 // How many comparisons were made, and how many of them found no difference.
-#[derive(Drop)]
+#[derive(Clone, Copy)]
 struct Tally {
     compared: u64,
     same: u64,

@@ -1,4 +1,6 @@
 // Document 01's listing program: standard input has the link byte, the mode byte and the sheet.
+#![tactic(auto)]
+
 use libc::STDIN_FILENO;
 use report::list;
 

@@ -13,7 +13,7 @@ use filter::ast::{LinkType, link_of};
 use filter::record::primitive_at;
 
 // The evaluator's answer.
-#[derive(Drop)]
+#[derive(Clone, Copy)]
 pub enum Verdict {
     Refused { number: u8, place: u32 },
     Judged { holds: bool },

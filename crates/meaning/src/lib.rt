@@ -1,4 +1,6 @@
 // What a filter means, and the evaluator. Nothing here knows of instructions.
+#![tactic(auto)]
+
 pub mod access;
 pub mod ether;
 pub mod evaluate;

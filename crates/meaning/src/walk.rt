@@ -11,7 +11,7 @@ use filter::ast::LinkType;
 use filter::record::primitive_at;
 
 // A token, with the primitive and the step that come next there.
-#[derive(Drop)]
+#[derive(Clone, Copy)]
 pub struct Spot {
     pub token: usize,
     pub prim: u32,
@@ -19,7 +19,7 @@ pub struct Spot {
 }
 
 // A tree's value, and where the tokens after it begin.
-#[derive(Drop)]
+#[derive(Clone, Copy)]
 pub enum Eval {
     Done { holds: bool, next: Spot },
     TooDeep,

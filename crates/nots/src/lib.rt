@@ -1,4 +1,6 @@
 // Document 02's A4: a new sheet with the same steps and primitives, in which Not stands only directly above a primitive.
+#![tactic(auto)]
+
 ghost use Rattle.std.specs.Prelude.{◌≡◌, ◌++◌, ◌+◌, ◌<◌, ◌≤◌, length, take, drop};
 ghost use Rattle.filter.specs.Written.{written};
 ghost use Rattle.nots.specs.Turn.{Begins, past, wanted_at, denied_at, other_of, laid, reached_of, leaf_size, size_of};
@@ -9,21 +11,21 @@ ghost use Rattle.tree.specs.Tree.{flat, tree_of};
 use checks::check::{Checked, check_whole};
 
 // A refusal, or the new sheet's length.
-#[derive(Drop)]
+#[derive(Clone, Copy)]
 pub enum Pushed {
     Refused { number: u8, place: u32 },
     Length { bytes: u32 },
 }
 
 // A place in the tokens, and one in the output.
-#[derive(Drop)]
+#[derive(Clone, Copy)]
 pub struct Reached {
     pub token: usize,
     pub to: usize,
 }
 
 // How many tokens the turned part needs, and where the tokens behind the part begin.
-#[derive(Drop)]
+#[derive(Clone, Copy)]
 pub enum Size {
     Fits { next: usize, size: usize },
     TooDeep,

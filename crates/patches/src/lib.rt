@@ -1,5 +1,7 @@
 // Patch bookkeeping of ebpf_codegen.rs: instructions with open jumps in lent bytes, the lists of these jumps and the
 // operators that wait in lent numbers. Seven functions are `pub`, for the crates of the generator; each caller shows what they ask.
+#![tactic(auto)]
+
 ghost use Rattle.std.specs.Prelude.{◌≡◌, ◌+◌, ◌*◌, ◌^◌, ◌<◌, ◌≤◌, length, set};
 ghost use Rattle.patches.specs.Chain.{Descends, chain_of, put_off, resolved, reach};
 ghost use Rattle.patches.specs.Code.{Room, with_off, em, push1};
@@ -25,14 +27,14 @@ pub const OR_DONE: u32 = 5;
 
 // A list of open jumps, the last first: the place of the first in the list plus one, 0 for none, and the place of the
 // last in the list. `work` holds the links between them.
-#[derive(Drop)]
+#[derive(Clone, Copy)]
 pub struct PatchList {
     pub head: u32,
     pub tail: u32,
 }
 
 // The next place, and the open jumps of what was written last.
-#[derive(Drop)]
+#[derive(Clone, Copy)]
 pub struct Patches {
     pub pos: u32,
     pub success: PatchList,
@@ -40,7 +42,7 @@ pub struct Patches {
 }
 
 // Whether all jumps of a list reach their target.
-#[derive(Drop)]
+#[derive(Clone, Copy)]
 pub enum Patched {
     Done,
     TooFar,
@@ -242,7 +244,7 @@ fn right(work: &mut [u32], base: usize, st: Patches) -> Patches
 }
 
 // An operator is done, or waits for its other operand, or a jump is too far.
-#[derive(Drop)]
+#[derive(Clone, Copy)]
 pub enum Closed {
     Up(Patches),
     Stay(Patches),
@@ -321,7 +323,7 @@ fn close(out: &mut [u8], work: &mut [u32], l: usize, n: usize, op: u32, st: Patc
 }
 
 // n operators wait, or none is left, or there is a refusal.
-#[derive(Drop)]
+#[derive(Clone, Copy)]
 pub enum Finished {
     Wait { n: usize, patches: Patches },
     Whole(Patches),

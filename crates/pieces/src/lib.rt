@@ -1,4 +1,6 @@
 // Port of ebpf_codegen.rs: the pieces that the code of primitives is made of, for the crate `codegen`; each caller shows what they ask.
+#![tactic(auto)]
+
 pub mod ether;
 pub mod guarded;
 pub mod load;

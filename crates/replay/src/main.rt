@@ -12,6 +12,8 @@
 //   N output-bytes(4) sheet-length(4) sheet: the refusal and its place, or 0, the length of the sheet with the Nots pushed down, and its bytes
 //     in hex; output to 1 MiB.
 // A case that is cut, has another tag or is longer than its buffers ends the run with a line that says which case it is.
+#![tactic(auto)]
+
 ghost use Rattle.std.specs.Prelude.{◌<◌, ◌^◌, length};
 ghost use Rattle.replay.specs.Part.{Within};
 
@@ -24,19 +26,19 @@ use meaning::evaluate::{Verdict, evaluate};
 use nots::{Pushed, push_nots};
 use report::{list, report};
 
-#[derive(Drop)]
+#[derive(Clone, Copy)]
 enum Number {
     Value(u64),
     Missing,
 }
 
-#[derive(Drop)]
+#[derive(Clone, Copy)]
 enum Part {
     Bytes(usize),
     Bad,
 }
 
-#[derive(Drop)]
+#[derive(Clone, Copy)]
 enum Next {
     More,
     End,

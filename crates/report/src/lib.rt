@@ -1,4 +1,6 @@
 // What document 01's listing program prints: the refusal and its place or 0 and L, then the program or the Rust's text.
+#![tactic(auto)]
+
 ghost use Rattle.std.specs.Prelude.{◌≡◌, ◌*◌, ◌<◌, ◌≤◌, length};
 ghost use Rattle.generator.specs.Compile.{outcome_of, output_after, work_after};
 ghost use Rattle.report.specs.Listing.{listed};

@@ -1,9 +1,11 @@
 // The libpcap savefile format: header, records, and refusals 40 to 43 of document 02's A1. Nothing here knows of filters.
+#![tactic(auto)]
+
 ghost use Rattle.std.specs.Prelude.{◌≡◌, ◌+◌, ◌*◌, ◌≤◌, length};
 ghost use Rattle.savefile.specs.Savefile.{number_at, is_magic, magic_of, header_in, header_of, next_of, file_walk, walked_of, opened_of};
 
 // The byte order of a file's headers.
-#[derive(Drop)]
+#[derive(Clone, Copy)]
 pub enum Magic {
     Big,
     Little,
@@ -11,14 +13,14 @@ pub enum Magic {
 }
 
 // What stands at a place of the file where a record may start.
-#[derive(Drop)]
+#[derive(Clone, Copy)]
 pub enum Next {
     Record { captured: u32, original: u32 },
     Fault { number: u8 },
 }
 
 // The byte order of a file's headers and the link that it picks; or a refusal, and the byte where what is refused begins.
-#[derive(Drop)]
+#[derive(Clone, Copy)]
 pub enum Opened {
     Capture { big: bool, link: u8 },
     Refused { number: u8, place: usize },

@@ -1,9 +1,11 @@
 // Trees as prefix tokens: 0 the next primitive, 1 And, 2 Or, 3 Not.
+#![tactic(auto)]
+
 ghost use Rattle.std.specs.Prelude.{◌≡◌, ◌+◌, ◌^◌, ◌<◌, ◌≤◌};
 ghost use Rattle.tree.specs.Shape.{shape_of, wanted, met_by};
 
 // What a run of tokens is: one whole tree, with the number of its primitives, or not one tree.
-#[derive(Drop)]
+#[derive(Clone, Copy)]
 pub enum Shape {
     Whole { leaves: usize },
     Broken,

@@ -71,7 +71,7 @@ unique {T} {R} {E} {φ} t fixes = record {
   where
     known : (M : Type 1) (𝓤 : Ura M) (κs : Lfts T.signature.lifetimes) (a : Args T.signature κs) (r : Res T.signature κs) (ws : Lasts T κs a)
         → Sat 𝓤.op (E M 𝓤 κs a r (at_exit T κs a ws)) → ∥ φ κs a r (at_exit T κs a ws) ∥₁
-    known M 𝓤 κs a r ws s = ∥∥₁_map (Sat_exists 𝓤 (λ _. emp 𝓤) (Sat.mono 𝓤.op (t.told M 𝓤 κs a r (at_exit T κs a ws)) s)) (λ p. p.0)
+    known M 𝓤 κs a r ws s = ∥∥₁_map (Sat_exists {0} 𝓤 {A = φ κs a r (at_exit T κs a ws)} (λ _. emp 𝓤) (Sat.mono 𝓤.op (t.told M 𝓤 κs a r (at_exit T κs a ws)) s)) (λ p. p.0)
 
 -- The case of most functions: the result is what a definition says, and nothing is lent mutably (`unlent`).
 pub by_result : {T : Ended} {R : Asks T} (D : (κs : Lfts T.signature.lifetimes) → Args T.signature κs → Res T.signature κs)

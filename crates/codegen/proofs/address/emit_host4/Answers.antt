@@ -1,0 +1,16 @@
+-- The ethertype, then the words.
+use Rattle.codegen.specs.Primitives.{emit_host4}
+use Rattle.pieces.proofs.Pieces.{first, second, then}
+use Rattle.codegen.proofs.address.emit_host4.Goals as goal
+
+pub emit_ethertype-a-requires : goal.emit_ethertype-a-requires
+unfolding emit_host4
+emit_ethertype-a-requires c = first _ _ _ c.requires
+
+pub check_host-requires : goal.check_host-requires
+unfolding emit_host4
+check_host-requires c = rw (c.net_plus-2.ensures, c.net_plus.ensures) ((second _ _ _ _ _ _ _ _ c.requires c.emit_ethertype-a.ensures))
+
+pub returns : goal.returns
+unfolding emit_host4
+returns c = then _ _ _ _ _ c.emit_ethertype-a.ensures ((rw (c.net_plus-2.ensures, c.net_plus.ensures) at c.check_host.ensures))

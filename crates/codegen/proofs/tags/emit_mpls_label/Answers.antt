@@ -1,0 +1,25 @@
+-- Nothing, or the label.
+use Rattle.patches.specs.Code.{block}
+use Rattle.pieces.specs.Fragments.{fails}
+use Rattle.pieces.proofs.Pieces.{first, second, head, tail, then, step, one}
+use Rattle.codegen.proofs.tags.emit_mpls_label.Goals as goal
+
+pub emit_load_from-a-requires : goal.emit_load_from-a-requires
+unfolding fails
+emit_load_from-a-requires c = first _ _ _ (rw c.in-SomeLabel.is at c.requires)
+
+pub push-b-requires : goal.push-b-requires
+unfolding fails
+push-b-requires c = head _ _ _ (second _ _ _ _ _ _ _ _ (rw c.in-SomeLabel.is at c.requires) c.emit_load_from-a.ensures)
+
+pub push_failure-requires : goal.push_failure-requires
+unfolding fails
+push_failure-requires c = head _ _ _ (tail _ _ _ _ _ _ _ _ (second _ _ _ _ _ _ _ _ (rw c.in-SomeLabel.is at c.requires) c.emit_load_from-a.ensures) (rw c.rsh32_imm.ensures at c.push-b.ensures))
+
+pub returns-in-NoLabel : goal.returns-in-NoLabel
+unfolding block
+returns-in-NoLabel c = rw c.in-NoLabel.is
+
+pub returns-in-SomeLabel : goal.returns-in-SomeLabel
+unfolding fails
+returns-in-SomeLabel c = rw c.in-SomeLabel.is (then _ _ _ _ _ c.emit_load_from-a.ensures (step _ _ _ _ _ (rw c.rsh32_imm.ensures at c.push-b.ensures) (one _ _ _ (rw c.jne.ensures at c.push_failure.ensures))))

@@ -1,0 +1,11 @@
+use borrow.Author.Tests.{ne_eqb}
+use Rattle.filter.specs.Record.{rhs_at}
+use Rattle.filter.proofs.record.rhs_at.Goals as goal
+
+pub returns-then-record_byte-eq0 : goal.returns-then-record_byte-eq0
+unfolding rhs_at
+returns-then-record_byte-eq0 c = rw (← c.record_byte.ensures, c.if-record_byte-eq0.true, c.record_word.ensures)
+
+pub returns-else-record_byte-eq0 : goal.returns-else-record_byte-eq0
+unfolding rhs_at
+returns-else-record_byte-eq0 c = rw (← c.record_byte.ensures, ne_eqb _ _ c.if-record_byte-eq0.false, c.load_at.ensures)

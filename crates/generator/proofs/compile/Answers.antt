@@ -1,0 +1,47 @@
+-- Refusals 1 to 8 leave all as it was; past them the sections go to `generate`.
+use mathlib.Core.Path.{refl, sym, ◌∙◌}
+use native.Mathlib.Omega.{arith}
+use lib.ListN.{length}
+use Rattle.filter.specs.Sheet.{steps_part, prims_part, tokens_part}
+use Rattle.generator.specs.Compile.{outcome, outcome_of, answer_of, output_after, work_after}
+use Rattle.generator.proofs.Admitted.{admitted, whole_sheet, tokens_length, sheet_sized, late_outcome}
+use Rattle.generator.proofs.compile.Goals as goal
+
+pub slice_bounds-generate-end : goal.slice_bounds-generate-end
+slice_bounds-generate-end c =
+    let a = c.args in
+    let v = admitted a.sheet.now a.link a.mode (length a.output.now) (length a.work.now) _ _ _ _ (sym c.admit.ensures ∙ c.in-Length.is) in
+    omega (arith, whole_sheet v)
+
+pub slice_bounds-generate-end-in-Length : goal.slice_bounds-generate-end-in-Length
+slice_bounds-generate-end-in-Length c =
+    let a = c.args in
+    let v = admitted a.sheet.now a.link a.mode (length a.output.now) (length a.work.now) _ _ _ _ (sym c.admit.ensures ∙ c.in-Length.is) in
+    omega (arith, whole_sheet v)
+
+pub slice_bounds-generate-end-in-Length-2 : goal.slice_bounds-generate-end-in-Length-2
+slice_bounds-generate-end-in-Length-2 c =
+    let a = c.args in
+    let v = admitted a.sheet.now a.link a.mode (length a.output.now) (length a.work.now) _ _ _ _ (sym c.admit.ensures ∙ c.in-Length.is) in
+    omega (arith, whole_sheet v)
+
+pub generate-requires : goal.generate-requires
+unfolding steps_part prims_part tokens_part
+generate-requires c =
+    let a = c.args in
+    let v = admitted a.sheet.now a.link a.mode (length a.output.now) (length a.work.now) _ _ _ _ (sym c.admit.ensures ∙ c.in-Length.is) in
+    record { sized = rw c.link_of.ensures (sheet_sized v a.mode (omega arith) (omega arith) (omega arith)); l_in_bounds = (v.bytes, omega (arith, v.numbers, tokens_length v)) }
+
+pub returns-in-Refused : goal.returns-in-Refused
+unfolding outcome_of outcome answer_of output_after work_after
+returns-in-Refused c =
+    rw (← c.admit.ensures, c.in-Refused.is, c.at.ensures) (refl, (refl, refl))
+
+pub returns-in-Length : goal.returns-in-Length
+unfolding answer_of output_after work_after steps_part prims_part tokens_part
+returns-in-Length c =
+    let a = c.args in
+    let m = sym c.admit.ensures ∙ c.in-Length.is in
+    let v = admitted a.sheet.now a.link a.mode (length a.output.now) (length a.work.now) _ _ _ _ m in
+    let g = c.generate in
+    rw (late_outcome v a.mode _ c.link_of.ensures m) (g.ensures.0, (g.ensures.1.0, g.ensures.1.1))

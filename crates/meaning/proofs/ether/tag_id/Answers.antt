@@ -1,0 +1,17 @@
+-- The half behind the tag is read where there is an ethertype.
+use Rattle.meaning.specs.Frame.{passes}
+use Rattle.meaning.specs.Meaning.{tagged}
+use Rattle.meaning.proofs.Numbers.{flag}
+use Rattle.meaning.proofs.ether.tag_id.Goals as goal
+
+pub returns-then-has : goal.returns-then-has
+unfolding tagged passes
+returns-then-has c = simp (c.half_at.ensures, flag c.has.ensures c.if-has.true, c.in-At.is, ← c.ether_proto_offset.ensures)
+
+pub returns-else-has : goal.returns-else-has
+unfolding tagged passes
+returns-else-has c = simp (flag c.has.ensures c.if-has.false, c.in-At.is, ← c.ether_proto_offset.ensures)
+
+pub returns-in-Nowhere : goal.returns-in-Nowhere
+unfolding tagged passes
+returns-in-Nowhere c = simp (c.in-Nowhere.is, ← c.ether_proto_offset.ensures)

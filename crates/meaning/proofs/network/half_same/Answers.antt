@@ -1,0 +1,5 @@
+-- The mask and the half of the definition.
+use Rattle.meaning.proofs.network.half_same.Goals as goal
+
+pub returns : goal.returns
+returns c = simp (c.half_under.ensures, c.before.half_of_lem.ensures, c.half_mask.ensures)

@@ -1,0 +1,7 @@
+-- The sum in 32 bits.
+use Rattle.pieces.specs.Fragments.{end_of}
+use Rattle.pieces.proofs.load.end_of.Goals as goal
+
+pub returns : goal.returns
+unfolding end_of
+returns c = simp (c.wrapping_add_u32.ensures, c.size_bytes.ensures)

@@ -9,7 +9,7 @@ returns-in-0 c = simp c.in-0.is
 
 pub returns-in-4 : goal.returns-in-4
 unfolding context_act
-returns-in-4 c = simp (c.wrapping_add_u64.ensures, c.in-4.is)
+returns-in-4 c = simp (c.wrapping_add_u64.ensures.value, c.in-4.is)
 
 pub returns-in_default : goal.returns-in_default
 unfolding context_act

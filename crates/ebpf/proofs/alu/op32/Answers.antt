@@ -6,11 +6,11 @@ use Rattle.ebpf.proofs.alu.op32.Goals as goal
 
 pub returns-in-0 : goal.returns-in-0
 unfolding alu32
-returns-in-0 c = rw c.in-0.is c.wrapping_add_u32.ensures
+returns-in-0 c = rw c.in-0.is c.wrapping_add_u32.ensures.value
 
 pub returns-in-1 : goal.returns-in-1
 unfolding alu32
-returns-in-1 c = rw c.in-1.is (sub32 c.wrapping_sub_u32.type-inv c.ranges.b c.wrapping_sub_u32.ensures)
+returns-in-1 c = rw c.in-1.is (sub32 c.wrapping_sub_u32.type_inv c.ranges.b c.wrapping_sub_u32.ensures.value)
 
 pub returns-in-2 : goal.returns-in-2
 unfolding alu32

@@ -6,11 +6,11 @@ use Rattle.ebpf.proofs.alu.op64.Goals as goal
 
 pub returns-in-0 : goal.returns-in-0
 unfolding alu64
-returns-in-0 c = rw c.in-0.is c.wrapping_add_u64.ensures
+returns-in-0 c = rw c.in-0.is c.wrapping_add_u64.ensures.value
 
 pub returns-in-1 : goal.returns-in-1
 unfolding alu64
-returns-in-1 c = rw c.in-1.is (sub64 c.wrapping_sub_u64.type-inv c.ranges.b c.wrapping_sub_u64.ensures)
+returns-in-1 c = rw c.in-1.is (sub64 c.wrapping_sub_u64.type_inv c.ranges.b c.wrapping_sub_u64.ensures.value)
 
 pub returns-in_default : goal.returns-in_default
 unfolding alu64

@@ -6,7 +6,7 @@ use Rattle.ebpf.proofs.run.drive.Given as goal
 
 abbrev pub invariant-loop-n : goal.invariant-loop-n
 invariant-loop-n l = (l.n ≤ l.budget) × (length l.values ≡ 7) × (length l.written ≡ 7)
-    × (go_of (l.budget - l.n) l.program l.frame l.start (record { regs = regs_of l.values l.written; l.pc = l.pc }) l.n ≡ go_of l.budget l.program l.frame l.start first_state 0)
+    × (go_of (l.budget - l.n) l.program l.frame l.start (record { regs = regs_of l.values l.written; pc = l.pc }) l.n ≡ go_of l.budget l.program l.frame l.start first_state 0)
 
 abbrev pub decreases-loop-n : goal.decreases-loop-n
 decreases-loop-n l = l.budget - l.n

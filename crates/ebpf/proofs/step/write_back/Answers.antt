@@ -9,12 +9,12 @@ returns-in-Writes c = rw (c.in-Writes.is, c.write.ensures, c.mark.ensures)
 
 pub returns-in-Jumps : goal.returns-in-Jumps
 unfolding regs_after with_of
-returns-in-Jumps c = simp (c.in-Jumps.is, c.in-Writes.keys2)
+returns-in-Jumps c = simp (c.in-Jumps.is)
 
 pub returns-in-Falls : goal.returns-in-Falls
 unfolding regs_after with_of
-returns-in-Falls c = simp (c.in-Falls.is, c.in-Writes.keys3)
+returns-in-Falls c = simp (c.in-Falls.is)
 
 pub returns-in-Halts : goal.returns-in-Halts
 unfolding regs_after with_of
-returns-in-Halts c = simp (c.in-Halts.is, c.in-Writes.keys4)
+returns-in-Halts c = simp (c.in-Halts.is)

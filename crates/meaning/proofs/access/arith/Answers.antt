@@ -6,11 +6,11 @@ use Rattle.meaning.proofs.access.arith.Goals as goal
 
 pub returns-in-Add : goal.returns-in-Add
 unfolding arith
-returns-in-Add c = simp (c.wrapping_add_u32.ensures, c.in-Add.is)
+returns-in-Add c = simp (c.wrapping_add_u32.ensures.value, c.in-Add.is)
 
 pub returns-in-Sub : goal.returns-in-Sub
 unfolding arith
-returns-in-Sub c = rw c.in-Sub.is (sub32 c.wrapping_sub_u32.type-inv c.ranges.k c.wrapping_sub_u32.ensures)
+returns-in-Sub c = rw c.in-Sub.is (sub32 c.wrapping_sub_u32.type_inv c.ranges.k c.wrapping_sub_u32.ensures.value)
 
 pub returns-in-Mul : goal.returns-in-Mul
 unfolding arith

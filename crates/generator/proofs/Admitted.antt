@@ -105,7 +105,7 @@ module _ {s : List ℕ} {link output work a b c l : ℕ} (v : Admitted s link ou
   unfolding count.program_length count.sizes_of
   sheet_sized mode ha hb hc = record {
     leaves = b;
-    one-tree = whole_shape (shape_of (tokens_part s a b c)) b (good s link v.checked).parts.whole;
+    one_tree = whole_shape (shape_of (tokens_part s a b c)) b (good s link v.checked).parts.whole;
     exact =
         let t = take_all c (tokens_part s a b c) (omega (arith, tokens_length)) in
         let none : count.sizes_of (link_of link) (steps_part s a) (prims_part s a b) 0 ≡ 0 = refl in

@@ -140,10 +140,10 @@ unfolding turn_of
 turn r = record {
   descends = r.descends;
   room = r.room;
-  pos-in = r.pos_in;
-  lo-in = r.lo_in;
-  success-list = r.failure_list;
-  failure-list = r.success_list;
+  pos_in = r.pos_in;
+  lo_in = r.lo_in;
+  success_list = r.failure_list;
+  failure_list = r.success_list;
   apart = apart_sym _ _ r.apart;
   stack = r.stack;
 }
@@ -167,10 +167,10 @@ module _ (l : ℕ) (w : List ℕ) (n : ℕ) (st : Patches) (op lo lo' : ℕ) (ps
   only_kept z = record {
     descends = r.descends;
     room = room_n;
-    pos-in = r.pos_in;
-    lo-in = omega (arith, r.lo_in);
-    success-list = successes_stay;
-    failure-list = rw (holds_nil r.failure_list z) (holds_wider lo' st.pos k (omega arith) r.lo_in);
+    pos_in = r.pos_in;
+    lo_in = omega (arith, r.lo_in);
+    success_list = successes_stay;
+    failure_list = rw (holds_nil r.failure_list z) (holds_wider lo' st.pos k (omega arith) r.lo_in);
     apart = apart_both;
     stack = s;
   }
@@ -179,10 +179,10 @@ module _ (l : ℕ) (w : List ℕ) (n : ℕ) (st : Patches) (op lo lo' : ℕ) (ps
   none_kept z = record {
     descends = r.descends;
     room = room_n;
-    pos-in = r.pos_in;
-    lo-in = omega (arith, r.lo_in);
-    success-list = successes_stay;
-    failure-list = rw (holds_nil k z, append-nil) (holds_wider lo' st.pos r.failure_list g (omega arith));
+    pos_in = r.pos_in;
+    lo_in = omega (arith, r.lo_in);
+    success_list = successes_stay;
+    failure_list = rw (holds_nil k z, append-nil) (holds_wider lo' st.pos r.failure_list g (omega arith));
     apart = apart_both;
     stack = s;
   }
@@ -201,10 +201,10 @@ module _ (l : ℕ) (w : List ℕ) (n : ℕ) (st : Patches) (op lo lo' : ℕ) (ps
       record {
         descends = descends_set l w t x.head r.descends (omega (arith, k.below));
         room = simp length-set room_n;
-        pos-in = r.pos_in;
-        lo-in = omega (arith, r.lo_in);
-        success-list = holds_other t x.head successes_stay t-out;
-        failure-list = holds_join l f k r.descends r.pos_in (omega (arith, r.room)) g r.lo_in z z';
+        pos_in = r.pos_in;
+        lo_in = omega (arith, r.lo_in);
+        success_list = holds_other t x.head successes_stay t-out;
+        failure_list = holds_join l f k r.descends r.pos_in (omega (arith, r.room)) g r.lo_in z z';
         apart = apart_both;
         stack = stack_set l w t x.head r.descends (omega (arith, r.lo_in, r.pos_in)) (inl (omega arith, omega (arith, f.below, r.pos_in))) s;
       }
@@ -319,10 +319,10 @@ stay {l} {w} {n} {st} {op} {lo} {lo'} {ps} {fs} {sp} {fp} new r = top r.stack
     top (over h e k s) = record {
       descends = save_descends l w n new st.failure r.descends r.room;
       room = omega (arith, save_length l w n new st.failure r.descends r.room, r.room);
-      pos-in = r.pos_in;
-      lo-in = omega arith;
-      success-list = holds_none;
-      failure-list = holds_none;
+      pos_in = r.pos_in;
+      lo_in = omega arith;
+      success_list = holds_none;
+      failure_list = holds_none;
       apart = apart_nil;
       stack =
           save_frame l w n new st.failure r.descends r.room
@@ -338,10 +338,10 @@ leave {l} {w} {n} {st} {op} {lo} {lo'} {ps} {fs} {sp} {fp} r = top r.stack
     top (over h e k s) = record {
       descends = r.descends;
       room = omega (arith, r.room);
-      pos-in = r.pos_in;
-      lo-in = omega (arith, r.lo_in);
-      success-list = holds_none;
-      failure-list = holds_wider lo' st.pos r.failure_list h (omega arith);
+      pos_in = r.pos_in;
+      lo_in = omega (arith, r.lo_in);
+      success_list = holds_none;
+      failure_list = holds_wider lo' st.pos r.failure_list h (omega arith);
       apart = apart_none fp;
       stack = s;
     }
@@ -352,10 +352,10 @@ pub rel_start : (l : ℕ) (w : List ℕ) (pos : ℕ) → Descends l w → l ≤ 
 rel_start l w pos d h k = record {
   descends = d;
   room = omega arith;
-  pos-in = k;
-  lo-in = omega arith;
-  success-list = holds_none;
-  failure-list = holds_none;
+  pos_in = k;
+  lo_in = omega arith;
+  success_list = holds_none;
+  failure_list = holds_none;
   apart = apart_nil;
   stack = bottom;
 }
@@ -366,10 +366,10 @@ pub rel_push : {l : ℕ} {w : List ℕ} {n : ℕ} {st : Patches} {fs : List Fram
 rel_push {l} {w} {n} {st} op r h = record {
   descends = save_descends l w n op empty r.descends h;
   room = omega (arith, save_length l w n op empty r.descends h);
-  pos-in = r.pos_in;
-  lo-in = omega arith;
-  success-list = save_holds l w n op empty r.descends h r.success_list r.pos_in;
-  failure-list = save_holds l w n op empty r.descends h r.failure_list r.pos_in;
+  pos_in = r.pos_in;
+  lo_in = omega arith;
+  success_list = save_holds l w n op empty r.descends h r.success_list r.pos_in;
+  failure_list = save_holds l w n op empty r.descends h r.failure_list r.pos_in;
   apart = apart_nil;
   stack = save_frame l w n op empty r.descends h holds_none r.stack (omega arith) r.pos_in;
 }
@@ -380,10 +380,10 @@ pub rel_fixed : {l : ℕ} {w : List ℕ} {n : ℕ} {st : Patches} {fs : List Fra
 rel_fixed {st = st} {lo = lo} r h = record {
   descends = r.descends;
   room = r.room;
-  pos-in = omega arith;
-  lo-in = omega (arith, r.lo_in);
-  success-list = holds_wider lo (st.pos + 1) r.success_list (omega arith) (omega arith);
-  failure-list = holds_wider lo (st.pos + 1) r.failure_list (omega arith) (omega arith);
+  pos_in = omega arith;
+  lo_in = omega (arith, r.lo_in);
+  success_list = holds_wider lo (st.pos + 1) r.success_list (omega arith) (omega arith);
+  failure_list = holds_wider lo (st.pos + 1) r.failure_list (omega arith) (omega arith);
   apart = r.apart;
   stack = r.stack;
 }
@@ -409,10 +409,10 @@ unfolding pushed pushed_links
 rel_failure {l} {w} {st = st} {sp = sp} {lo = lo} r h = record {
   descends = descends_set l w st.pos st.failure.head r.descends r.failure_list.below;
   room = simp length-set r.room;
-  pos-in = omega arith;
-  lo-in = omega (arith, r.lo_in);
-  success-list = holds_wider lo (st.pos + 1) (holds_set l st.pos st.failure.head r.success_list r.descends r.pos_in (omega arith)) (omega arith) (omega arith);
-  failure-list = record {
+  pos_in = omega arith;
+  lo_in = omega (arith, r.lo_in);
+  success_list = holds_wider lo (st.pos + 1) (holds_set l st.pos st.failure.head r.success_list r.descends r.pos_in (omega arith)) (omega arith) (omega arith);
+  failure_list = record {
     places = push_chain l w st.failure.head st.pos r.descends h r.failure_list.below (omega (arith, r.room)) ∙ ap (λ x. st.pos ∷ x) r.failure_list.places;
     below = omega arith;
     above = ge_cons r.lo_in r.failure_list.above;

@@ -157,6 +157,6 @@ accepted s link mode work l out byte e =
       by_tree = by_tree.0;
       size = long;
       allowed = allowed;
-      near = record { inside = by_tree.1.inside; to-accept = by_tree.1.to_accept; to_drop = by_tree.1.to_drop };
+      near = record { inside = by_tree.1.inside; to_accept = by_tree.1.to_accept; to_drop = by_tree.1.to_drop };
       written = rw m.whole (front (8 * l) (code_of m.is) (drop (8 * l) out) long ∙ ap code_of by_tree.0);
     }

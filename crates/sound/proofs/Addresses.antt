@@ -43,11 +43,11 @@ first_there false t' p q h = rw (h refl)
 
 module _ {frame : List ℕ} {start : ℕ} where
   pub unchanged : Changes frame start [] (λ x. x)
-  unchanged = record { makes = λ x l. no_code; stays-low = λ x l. l }
+  unchanged = record { makes = λ x l. no_code; stays_low = λ x l. l }
 
   pub masks : (mask : ℕ) → mask < 2 ^ 32 → Changes frame start (fixed (alu32_imm AND 4 mask) ∷ []) (λ x. bit_and x mask)
   unfolding alu32
-  masks mask m = record { makes = λ x l. computes and32 l; stays-low = λ x l. arithmetic_fits x (and32 {imm = mask}) l m }
+  masks mask m = record { makes = λ x l. computes and32 l; stays_low = λ x l. arithmetic_fits x (and32 {imm = mask}) l m }
 
   module _ (w : Frame frame start) {mode k : ℕ} {test : ℕ → Bool} {work : ℕ → ℕ} {masked : List Slot} (r : Reads mode Eq k test)
       (c : Changes frame start masked work) where

@@ -57,13 +57,13 @@ unfolding first_refused
 parts_allowed link steps prims tokens a b c byte byte' t f =
     let tree = whole_tree tokens b t.whole in
     record {
-      step-byte = byte;
-      prim-byte = byte';
-      one-tree = tree.0;
+      step_byte = byte;
+      prim_byte = byte';
+      one_tree = tree.0;
       whole = tree.1;
-      not-far = none_below (far_offset link prims) b t.near;
-      not-shifted = none_below (shift_at steps prims) b t.short;
-      not-refused = λ i l. eqb-true (refusal_at link steps prims i) 0
+      not_far = none_below (far_offset link prims) b t.near;
+      not_shifted = none_below (shift_at steps prims) b t.short;
+      not_refused = λ i l. eqb-true (refusal_at link steps prims i) 0
           (not-false (eqb (refusal_at link steps prims i) 0)
           (none_below (λ k. not (eqb (refusal_at link steps prims k) 0)) b (ltb-false (first (λ k. not (eqb (refusal_at link steps prims k) 0)) b 0) b f) i l));
     }

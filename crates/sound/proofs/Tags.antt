@@ -165,7 +165,7 @@ module _ {frame : List ℕ} {start : ℕ} (w : Frame frame start) where
 
   shifts_down : Changes frame start (fixed (alu32_imm RSH 4 12) ∷ []) (λ x. x / 4096)
   unfolding alu32
-  shifts_down = record { makes = λ x l. computes (rsh32 (omega arith)) l; stays-low = λ x l. omega arith }
+  shifts_down = record { makes = λ x l. computes (rsh32 (omega arith)) l; stays_low = λ x l. omega arith }
 
   -- "top 20 bits of the word at 14": of the word behind the ethertype, where there is one.
   pub mpls_means : (mode : ℕ) (link : LinkType) → unless_ether link 15 ≡ 0 → Tests frame start (emit_mpls mode link NoLabel) (mpls link frame NoLabel)

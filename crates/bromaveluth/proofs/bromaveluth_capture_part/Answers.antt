@@ -4,5 +4,4 @@ use Rattle.bromaveluth.specs.Boundary.{captured_status, passed_count, dropped_co
 use Rattle.bromaveluth.proofs.bromaveluth_capture_part.Goals as goal
 
 pub returns : goal.returns
-returns c = let g = c.capture_part.ensures in let t = c.tell.ensures in
-    record { value = t.0 ∙ ap captured_status g.0; passed_after = t.1.0 ∙ ap passed_count g.0; dropped_after = t.1.1.0 ∙ ap dropped_count g.0; cut_after = t.1.1.1.0 ∙ ap cut_count g.0; answer_after = t.1.1.1.1 ∙ ap captured_number g.0; output_after = g.1.0; work_after = g.1.1 }
+returns c = record { value = c.tell.ensures.value ∙ ap captured_status c.capture_part.ensures.value; passed_after = c.tell.ensures.passed_after ∙ ap passed_count c.capture_part.ensures.value; dropped_after = c.tell.ensures.dropped_after ∙ ap dropped_count c.capture_part.ensures.value; cut_after = c.tell.ensures.cut_after ∙ ap cut_count c.capture_part.ensures.value; answer_after = c.tell.ensures.answer_after ∙ ap captured_number c.capture_part.ensures.value; output_after = c.capture_part.ensures.output_after; work_after = c.capture_part.ensures.work_after }

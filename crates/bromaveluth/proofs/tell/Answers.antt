@@ -5,10 +5,8 @@ use Rattle.bromaveluth.proofs.tell.Goals as goal
 
 pub returns-in-Refused : goal.returns-in-Refused
 unfolding captured_status passed_count dropped_count cut_count captured_number
-returns-in-Refused c = let m = c.in-Refused.is in
-    record { value = rw m refl; passed_after = rw m refl; dropped_after = rw m refl; cut_after = rw m refl; answer_after = rw m refl }
+returns-in-Refused c = record { value = rw c.in-Refused.is refl; passed_after = rw c.in-Refused.is refl; dropped_after = rw c.in-Refused.is refl; cut_after = rw c.in-Refused.is refl; answer_after = rw c.in-Refused.is refl }
 
 pub returns-in-Counted : goal.returns-in-Counted
 unfolding captured_status passed_count dropped_count cut_count captured_number
-returns-in-Counted c = let m = c.in-Counted.is in
-    record { value = rw m refl; passed_after = rw m refl; dropped_after = rw m refl; cut_after = rw m refl; answer_after = rw m refl }
+returns-in-Counted c = record { value = rw c.in-Counted.is refl; passed_after = rw c.in-Counted.is refl; dropped_after = rw c.in-Counted.is refl; cut_after = rw c.in-Counted.is refl; answer_after = rw c.in-Counted.is refl }

@@ -17,8 +17,8 @@ overflow_add-at c = let h = inside _ _ _ _ _ (sym c.next_of.ensures ∙ c.in-Rec
 
 pub judge_record-t-requires : goal.judge_record-t-requires
 unfolding total
-judge_record-t-requires c = let i = c.loop-left.invariant in let h = inside _ _ _ _ _ (sym c.next_of.ensures ∙ c.in-Record.is) in
-    record { captured_in_bounds = (h.0, h.1); always = c.requires; passed_bound = (omega (arith, h.0, i.0), omega (arith, h.0, i.0), omega (arith, h.0, i.0)) }
+judge_record-t-requires c =  let h = inside _ _ _ _ _ (sym c.next_of.ensures ∙ c.in-Record.is) in
+    record { captured_in_bounds = (h.0, h.1); always = c.requires; passed_bound = (omega (arith, h.0, c.loop-left.invariant.0), omega (arith, h.0, c.loop-left.invariant.0), omega (arith, h.0, c.loop-left.invariant.0)) }
 
 pub overflow_add-at-in-Record : goal.overflow_add-at-in-Record
 overflow_add-at-in-Record c = let h = inside _ _ _ _ _ (sym c.next_of.ensures ∙ c.in-Record.is) in omega (arith, h.0)
@@ -27,7 +27,7 @@ pub overflow_add-at-in-Record-2 : goal.overflow_add-at-in-Record-2
 overflow_add-at-in-Record-2 c = let h = inside _ _ _ _ _ (sym c.next_of.ensures ∙ c.in-Record.is) in omega (arith, h.0)
 
 pub loop-left-preserved : goal.loop-left-preserved
-loop-left-preserved c = let i = c.loop-left.invariant in let e = c.judge_record-t.ensures in (rw e (total_next _ _ _ _ _ _ i.0), rw e (judged_next _ _ _ _ _ _ c.loop-left-test.true c.if-n-at.false _ _ (sym c.next_of.ensures ∙ c.in-Record.is)) ∙ i.1)
+loop-left-preserved c = (rw c.judge_record-t.ensures (total_next _ _ _ _ _ _ c.loop-left.invariant.0), rw c.judge_record-t.ensures (judged_next _ _ _ _ _ _ c.loop-left-test.true c.if-n-at.false _ _ (sym c.next_of.ensures ∙ c.in-Record.is)) ∙ c.loop-left.invariant.1)
 
 pub returns-in-Fault : goal.returns-in-Fault
 returns-in-Fault c = judged_fault _ _ _ _ _ _ c.loop-left-test.true c.if-n-at.false _ (sym c.next_of.ensures ∙ c.in-Fault.is) ∙ c.loop-left.invariant.1

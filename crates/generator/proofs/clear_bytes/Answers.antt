@@ -7,10 +7,10 @@ pub loop-i-init : goal.loop-i-init
 loop-i-init c = clear_begins c.requires
 
 pub bounds-out-i : goal.bounds-out-i
-bounds-out-i c = let v = c.loop-i.invariant in omega (arith, clear_length v, v.n_in)
+bounds-out-i c = omega (arith, clear_length c.loop-i.invariant, c.loop-i.invariant.n_in)
 
 pub overflow_add-i : goal.overflow_add-i
-overflow_add-i c = let v = c.loop-i.invariant in omega (arith, clear_length v, v.n_in)
+overflow_add-i c = omega (arith, clear_length c.loop-i.invariant, c.loop-i.invariant.n_in)
 
 pub loop-i-smaller : goal.loop-i-smaller
 loop-i-smaller c = omega arith

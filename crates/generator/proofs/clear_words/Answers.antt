@@ -7,13 +7,13 @@ pub loop-i-init : goal.loop-i-init
 loop-i-init c = clear_begins c.requires
 
 pub offset_bounds-work-i : goal.offset_bounds-work-i
-offset_bounds-work-i c = let v = c.loop-i.invariant in omega (arith, clear_length v, v.n_in)
+offset_bounds-work-i c = omega (arith, clear_length c.loop-i.invariant, c.loop-i.invariant.n_in)
 
 pub bounds-work-i : goal.bounds-work-i
-bounds-work-i c = let v = c.loop-i.invariant in omega (arith, clear_length v, v.n_in)
+bounds-work-i c = omega (arith, clear_length c.loop-i.invariant, c.loop-i.invariant.n_in)
 
 pub overflow_add-i : goal.overflow_add-i
-overflow_add-i c = let v = c.loop-i.invariant in omega (arith, clear_length v, v.n_in)
+overflow_add-i c = omega (arith, clear_length c.loop-i.invariant, c.loop-i.invariant.n_in)
 
 pub loop-i-smaller : goal.loop-i-smaller
 loop-i-smaller c = omega arith

@@ -7,6 +7,10 @@ use Rattle.generator.specs.Compile.{outcome, outcome_of, answer_of, output_after
 use Rattle.generator.proofs.Admitted.{admitted, whole_sheet, tokens_length, sheet_sized, late_outcome}
 use Rattle.generator.proofs.compile.Goals as goal
 
+-- the clauses, each by its name
+of_triple_value : {A B C : Type 0} → A × (B × C) → record { value : A; output_after : B; work_after : C }
+of_triple_value p = record { value = p.0; output_after = p.1.0; work_after = p.1.1 }
+
 pub slice_bounds-generate-end : goal.slice_bounds-generate-end
 slice_bounds-generate-end c =
     let a = c.args in
@@ -27,21 +31,18 @@ slice_bounds-generate-end-in-Length-2 c =
 
 pub generate-requires : goal.generate-requires
 unfolding steps_part prims_part tokens_part
-generate-requires c =
+generate-requires c = 
     let a = c.args in
     let v = admitted a.sheet.now a.link a.mode (length a.output.now) (length a.work.now) _ _ _ _ (sym c.admit.ensures ∙ c.in-Length.is) in
     record { sized = rw c.link_of.ensures (sheet_sized v a.mode (omega arith) (omega arith) (omega arith)); l_in_bounds = (v.bytes, omega (arith, v.numbers, tokens_length v)) }
 
 pub returns-in-Refused : goal.returns-in-Refused
 unfolding outcome_of outcome answer_of output_after work_after
-returns-in-Refused c =
-    rw (← c.admit.ensures, c.in-Refused.is, c.at.ensures) (refl, (refl, refl))
+returns-in-Refused c = of_triple_value (rw (← c.admit.ensures, c.in-Refused.is, c.at.ensures) (refl, (refl, refl)))
 
 pub returns-in-Length : goal.returns-in-Length
 unfolding answer_of output_after work_after steps_part prims_part tokens_part
-returns-in-Length c =
-    let a = c.args in
+returns-in-Length c = of_triple_value (let a = c.args in
     let m = sym c.admit.ensures ∙ c.in-Length.is in
     let v = admitted a.sheet.now a.link a.mode (length a.output.now) (length a.work.now) _ _ _ _ m in
-    let g = c.generate in
-    rw (late_outcome v a.mode _ c.link_of.ensures m) (g.ensures.0, (g.ensures.1.0, g.ensures.1.1))
+    rw (late_outcome v a.mode _ c.link_of.ensures m) (c.generate.ensures.value, (c.generate.ensures.out_after, c.generate.ensures.work_after)))

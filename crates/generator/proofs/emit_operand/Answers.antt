@@ -17,12 +17,15 @@ both-leave : (l n : ℕ) (o w o1 w1 o2 w2 : List ℕ) → SameFrom (8 * l) o o1 
 both-leave l n o w o1 w1 o2 w2 a b c =
     (from_trans (8 * l) o o1 o2 a.0 b, from_trans (l + 3 * n) w w1 w2 (from_more l (l + 3 * n) w w1 (omega arith) a.1) c)
 
+-- the clauses, each by its name
+of_triple_leaf_ok : {A B C : Type 0} → A × (B × C) → record { leaf_ok : A; same_from : B; same_from_2 : C }
+of_triple_leaf_ok p = record { leaf_ok = p.0; same_from = p.1.0; same_from_2 = p.1.1 }
+
 pub returns-then-code-ne0 : goal.returns-then-code-ne0
-returns-then-code-ne0 c =
+returns-then-code-ne0 c = 
     let a = c.args in
-    let r = c.refusal_of-code in
-    let d = denied a.mode a.link a.steps.now a.from a.prim (rw r.ensures at c.if-code-ne0.true) in
-    record { leaf_ok = rw (c.at.ensures, r.ensures) (leaf_refused a.l a.n a.k _ _ d a.out.now a.work.now a.st a.out.now a.work.now); same_from = (λ p h. refl); same_from_2 = (λ p h. refl) }
+    let d = denied a.mode a.link a.steps.now a.from a.prim (rw c.refusal_of-code.ensures at c.if-code-ne0.true) in
+    record { leaf_ok = rw (c.at.ensures, c.refusal_of-code.ensures) (leaf_refused a.l a.n a.k _ _ d a.out.now a.work.now a.st a.out.now a.work.now); same_from = (λ p h. refl); same_from_2 = (λ p h. refl) }
 
 pub emit_primitive-x-requires : goal.emit_primitive-x-requires
 emit_primitive-x-requires c =
@@ -30,25 +33,19 @@ emit_primitive-x-requires c =
     leaf_fits a.mode a.link a.steps.now a.from a.prim c.requires.l_in_bounds.1 (rw c.refusal_of-code.ensures at c.if-code-ne0.false) c.requires.some_leaf
 
 pub finish-requires : goal.finish-requires
-finish-requires c =
-    let a = c.args in let g = c.emit_primitive-x in
-    let z = rw c.refusal_of-code.ensures at c.if-code-ne0.false in
-    record {
-      some = leaf_some a.l a.n a.k (emit_primitive a.mode a.link a.steps.now a.from a.prim) a.out.now a.work.now a.st g.new.0 g.new.1.0 g.result g.ensures
-          (leaf_size a.mode a.link a.steps.now a.from a.prim z c.requires.some_leaf);
-      l_in_bounds = (omega (arith, g.auto.0, c.requires.l_in_bounds.0), c.requires.l_in_bounds.1);
-    }
+finish-requires c = 
+    let a = c.args in let z = rw c.refusal_of-code.ensures at c.if-code-ne0.false in
+    record { some = leaf_some a.l a.n a.k (emit_primitive a.mode a.link a.steps.now a.from a.prim) a.out.now a.work.now a.st c.emit_primitive-x.new.out c.emit_primitive-x.new.work c.emit_primitive-x.result c.emit_primitive-x.ensures
+          (leaf_size a.mode a.link a.steps.now a.from a.prim z c.requires.some_leaf); l_in_bounds = (omega (arith, c.emit_primitive-x.auto.out, c.requires.l_in_bounds.0), c.requires.l_in_bounds.1) }
 
 pub returns : goal.returns
-returns c =
-    let a = c.args in let g = c.emit_primitive-x in let f = c.finish in
-    let xs = emit_primitive a.mode a.link a.steps.now a.from a.prim in
+returns c = of_triple_leaf_ok (let a = c.args in let xs = emit_primitive a.mode a.link a.steps.now a.from a.prim in
     let z = rw c.refusal_of-code.ensures at c.if-code-ne0.false in
     let t = coded a.mode a.link a.steps.now a.from a.prim z in (
-      leaf_code a.l a.n a.k xs a.out.now a.work.now a.st g.new.0 g.new.1.0 g.result g.ensures
-          (template_of a.mode a.link a.steps.now a.from a.prim) t f.result f.new.0 f.new.1.0 f.ensures.0,
-      both-leave a.l a.n a.out.now a.work.now g.new.0 g.new.1.0 f.new.0 f.new.1.0
-          (leaf_from a.l a.n a.k xs a.out.now a.work.now a.st g.new.0 g.new.1.0 g.result g.ensures
+      leaf_code a.l a.n a.k xs a.out.now a.work.now a.st c.emit_primitive-x.new.out c.emit_primitive-x.new.work c.emit_primitive-x.result c.emit_primitive-x.ensures
+          (template_of a.mode a.link a.steps.now a.from a.prim) t c.finish.result c.finish.new.out c.finish.new.work c.finish.ensures.finish_ok,
+      both-leave a.l a.n a.out.now a.work.now c.emit_primitive-x.new.out c.emit_primitive-x.new.work c.finish.new.out c.finish.new.work
+          (leaf_from a.l a.n a.k xs a.out.now a.work.now a.st c.emit_primitive-x.new.out c.emit_primitive-x.new.work c.emit_primitive-x.result c.emit_primitive-x.ensures
           (leaf_size a.mode a.link a.steps.now a.from a.prim z c.requires.some_leaf))
-          f.ensures.1.0 f.ensures.1.1,
-    )
+          c.finish.ensures.same_from c.finish.ensures.same_from_2,
+    ))

@@ -23,10 +23,10 @@ loop-i-smaller c = omega (arith, c.loop-i-test.true)
 
 pub loop-i-preserved : goal.loop-i-preserved
 loop-i-preserved c = let a = c.args in let l = c.loop-i in
-    let h = c.loop-i-test.true in (
-      omega (arith, h),
+    (
+      omega (arith, c.loop-i-test.true),
       length-set l.output l.i _ ∙ l.invariant.1,
-      copied_more a.sheet.now a.output.now l.i (omega (arith, h, c.requires.0)) l.invariant.2,
+      copied_more a.sheet.now a.output.now l.i (omega (arith, c.loop-i-test.true, c.requires.0)) l.invariant.2,
     )
 
 pub returns : goal.returns

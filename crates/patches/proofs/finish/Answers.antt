@@ -9,17 +9,9 @@ use Rattle.patches.specs.Finish.{finish_ops}
 use Rattle.patches.specs.Same.{SameFrom}
 use Rattle.patches.proofs.Finishes.{Now, top, top_some, next_up, next_stay, next_far, bottom}
 use Rattle.patches.proofs.Unchanged.{from_trans, from_more}
+use Rattle.patches.proofs.finish.Invariants.{Inv}
 use Rattle.patches.proofs.finish.Goals as goal
 
-record Inv (o₀ w₀ : List ℕ) (l height : ℕ) (st₀ : Patches) (o : List ℕ) (n : ℕ) (st : Patches) (w : List ℕ) : Type 0 where
-  every : (fs : List Frame) (sp fp : List ℕ) (lo : ℕ) → Rel l w₀ height st₀ fs sp fp lo → st₀.pos + owed fs ≤ l → Now l (finish_ops fs st₀.pos o₀ sp fp) o w n st
-  room : l + 3 * n ≤ length w
-  n-in : n ≤ height
-  out-same : length o ≡ length o₀
-  outs : 8 * l ≤ length o
-  len : length w ≡ length w₀
-  from_out : SameFrom (8 * l) o₀ o
-  from-work : SameFrom (l + 3 * height) w₀ w
 
 some : {l : ℕ} {w : List ℕ} {n : ℕ} {st : Patches} (s : Some l w n st) (o₀ o w' : List ℕ) (m : ℕ) (x : Patches) → Inv o₀ w l n st o m x w'
     → Now l (finish_ops s.fs st.pos o₀ s.sp s.fp) o w' m x
@@ -29,12 +21,12 @@ pub loop-n-init : goal.loop-n-init
 loop-n-init c = record {
   every = λ fs sp fp lo r b. record { fs = fs; sp = sp; fp = fp; lo = lo; rel = r; budget = b; same = refl };
   room = c.requires.some.rel.room;
-  n-in = omega arith;
-  out-same = refl;
+  n_in = omega arith;
+  out_same = refl;
   outs = c.requires.l_in_bounds.0;
   len = refl;
   from_out = λ p h. refl;
-  from-work = λ p h. refl;
+  from_work = λ p h. refl;
 }
 
 pub overflow_sub-op : goal.overflow_sub-op
@@ -56,7 +48,7 @@ pub overflow_sub-n : goal.overflow_sub-n
 overflow_sub-n c = omega arith
 
 pub close-requires : goal.close-requires
-close-requires c = let p = c.loop-n in let a = c.args in
+close-requires c =  let p = c.loop-n in let a = c.args in
     let y = some c.requires.some a.out.now p.out p.work p.n p.st p.invariant in
     let z : 0 < p.n = omega arith in
     record { some_top = top_some a.l p.work p.n p.st y.fs y.sp y.fp y.lo (top a.l p.work p.n p.st y.fs y.sp y.fp y.lo z y.rel y.budget); l_in_bounds = (p.invariant.outs, c.requires.l_in_bounds.1) }
@@ -68,41 +60,30 @@ pub loop-n-smaller : goal.loop-n-smaller
 loop-n-smaller c = omega arith
 
 pub loop-n-preserved : goal.loop-n-preserved
-loop-n-preserved c = let p = c.loop-n in let a = c.args in let v = p.invariant in let g = c.close in let x = c.x-1.given in
-    let z : 0 < p.n = c.loop-n-test.true in
-    let len : length g.new.1.0 ≡ length p.work = g.auto.1.0 in
+loop-n-preserved c = let p = c.loop-n in let a = c.args in let v = p.invariant in let z : 0 < p.n = c.loop-n-test.true in
+    let len : length c.close.new.work ≡ length p.work = c.close.auto.work in
     record {
-      every = λ fs sp fp lo r b. next_up a.l (finish_ops fs a.start.pos a.out.now sp fp) p.out p.work p.n p.st z (v.every fs sp fp lo r b) g.new.0 g.new.1.0 g.result g.ensures.0 x.0.0 x.1;
+      every = λ fs sp fp lo r b. next_up a.l (finish_ops fs a.start.pos a.out.now sp fp) p.out p.work p.n p.st z (v.every fs sp fp lo r b) c.close.new.out c.close.new.work c.close.result c.close.ensures.close_ok c.in-Up.x c.in-Up.is;
       room = omega (arith, len, v.room);
-      n-in = omega (arith, v.n_in);
-      out-same = g.auto.0 ∙ v.out-same;
-      outs = omega (arith, g.auto.0, v.outs);
+      n_in = omega (arith, v.n_in);
+      out_same = c.close.auto.out ∙ v.out_same;
+      outs = omega (arith, c.close.auto.out, v.outs);
       len = len ∙ v.len;
-      from_out = from_trans (8 * a.l) a.out.now p.out g.new.0 v.from_out g.ensures.1.0;
-      from-work = from_trans (a.l + 3 * a.height) a.work.now p.work g.new.1.0 v.from_work
-          (from_more (a.l + 3 * (p.n - 1) + 3) (a.l + 3 * a.height) p.work g.new.1.0 (omega (arith, v.n_in)) g.ensures.1.1);
+      from_out = from_trans (8 * a.l) a.out.now p.out c.close.new.out v.from_out c.close.ensures.same_from;
+      from_work = from_trans (a.l + 3 * a.height) a.work.now p.work c.close.new.work v.from_work
+          (from_more (a.l + 3 * (p.n - 1) + 3) (a.l + 3 * a.height) p.work c.close.new.work (omega (arith, v.n_in)) c.close.ensures.same_from_2);
     }
 
 pub returns-in-Stay : goal.returns-in-Stay
-returns-in-Stay c = let p = c.loop-n in let a = c.args in let v = p.invariant in let g = c.close in let x = c.x-in-Stay-1.given in
-    let z : 0 < p.n = c.loop-n-test.true in
-    record {
-      finish_ok = (λ fs sp fp lo r b. next_stay a.l (finish_ops fs a.start.pos a.out.now sp fp) p.out p.work p.n p.st z (v.every fs sp fp lo r b) g.new.0 g.new.1.0 g.result g.ensures.0 x.0.0 x.1 z);
-      same_from = from_trans (8 * a.l) a.out.now p.out g.new.0 v.from_out g.ensures.1.0;
-      same_from_2 = from_trans (a.l + 3 * a.height) a.work.now p.work g.new.1.0 v.from_work
-          (from_more (a.l + 3 * (p.n - 1) + 3) (a.l + 3 * a.height) p.work g.new.1.0 (omega (arith, v.n_in)) g.ensures.1.1);
-    }
+returns-in-Stay c =  let p = c.loop-n in let a = c.args in let v = p.invariant in let z : 0 < p.n = c.loop-n-test.true in
+    record { finish_ok = (λ fs sp fp lo r b. next_stay a.l (finish_ops fs a.start.pos a.out.now sp fp) p.out p.work p.n p.st z (v.every fs sp fp lo r b) c.close.new.out c.close.new.work c.close.result c.close.ensures.close_ok c.in-Stay.x c.in-Stay.is z); same_from = from_trans (8 * a.l) a.out.now p.out c.close.new.out v.from_out c.close.ensures.same_from; same_from_2 = from_trans (a.l + 3 * a.height) a.work.now p.work c.close.new.work v.from_work
+            (from_more (a.l + 3 * (p.n - 1) + 3) (a.l + 3 * a.height) p.work c.close.new.work (omega (arith, v.n_in)) c.close.ensures.same_from_2) }
 
 pub returns-in-Far : goal.returns-in-Far
-returns-in-Far c = let p = c.loop-n in let a = c.args in let v = p.invariant in let g = c.close in
-    let z : 0 < p.n = omega arith in
-    record {
-      finish_ok = (λ fs sp fp lo r b. next_far a.l (finish_ops fs a.start.pos a.out.now sp fp) p.out p.work p.n p.st z (v.every fs sp fp lo r b) g.new.0 g.new.1.0 g.result g.ensures.0 c.in-Far.is);
-      same_from = from_trans (8 * a.l) a.out.now p.out g.new.0 v.from_out g.ensures.1.0;
-      same_from_2 = from_trans (a.l + 3 * a.height) a.work.now p.work g.new.1.0 v.from_work
-          (from_more (a.l + 3 * (p.n - 1) + 3) (a.l + 3 * a.height) p.work g.new.1.0 (omega (arith, v.n_in)) g.ensures.1.1);
-    }
+returns-in-Far c =  let p = c.loop-n in let a = c.args in let v = p.invariant in let z : 0 < p.n = omega arith in
+    record { finish_ok = (λ fs sp fp lo r b. next_far a.l (finish_ops fs a.start.pos a.out.now sp fp) p.out p.work p.n p.st z (v.every fs sp fp lo r b) c.close.new.out c.close.new.work c.close.result c.close.ensures.close_ok c.in-Far.is); same_from = from_trans (8 * a.l) a.out.now p.out c.close.new.out v.from_out c.close.ensures.same_from; same_from_2 = from_trans (a.l + 3 * a.height) a.work.now p.work c.close.new.work v.from_work
+            (from_more (a.l + 3 * (p.n - 1) + 3) (a.l + 3 * a.height) p.work c.close.new.work (omega (arith, v.n_in)) c.close.ensures.same_from_2) }
 
 pub returns : goal.returns
-returns c = let p = c.loop-n in let a = c.args in let v = p.invariant in
+returns c =  let p = c.loop-n in let a = c.args in let v = p.invariant in
     record { finish_ok = (λ fs sp fp lo r b. bottom a.l (finish_ops fs a.start.pos a.out.now sp fp) p.out p.work p.n p.st (omega arith) (v.every fs sp fp lo r b)); same_from = v.from_out; same_from_2 = v.from_work }

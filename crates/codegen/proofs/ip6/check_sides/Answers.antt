@@ -19,15 +19,14 @@ pub overflow_add-side : goal.overflow_add-side
 overflow_add-side c = omega (arith, c.loop-side-test.true, c.past_sides-last.ensures.1)
 
 pub side_end-end-requires : goal.side_end-end-requires
-side_end-end-requires c = let a = c.args in let n = c.side_length-n in let z = c.past_sides-last in let l = c.loop-side in
-    end_fits a.dir (part a.mode a.link a.addr a.prefix) n.result (n.ensures.0 a.mode a.link a.addr (net_offset a.link + 8)) a.out.now a.work.now a.st l.out l.work l.x l.side l.invariant (rw z.ensures.0 at c.loop-side-test.true)
+side_end-end-requires c = let a = c.args in let l = c.loop-side in
+    end_fits a.dir (part a.mode a.link a.addr a.prefix) c.side_length-n.result (c.side_length-n.ensures.by_index a.mode a.link a.addr (net_offset a.link + 8)) a.out.now a.work.now a.st l.out l.work l.x l.side l.invariant (rw c.past_sides-last.ensures.0 at c.loop-side-test.true)
 
 pub loop-i-init : goal.loop-i-init
-loop-i-init c = let a = c.args in let n = c.side_length-n in let z = c.past_sides-last in let l = c.loop-side in let p = c.net_plus-at in let e = c.side_end-end in
-    record {
+loop-i-init c = let a = c.args in let l = c.loop-side in record {
       made = refl;
-      leads = side_leads a.dir (part a.mode a.link a.addr a.prefix) n.result (n.ensures.0 a.mode a.link a.addr (net_offset a.link + 8)) a.out.now a.work.now a.st l.out l.work l.x l.side l.invariant (rw z.ensures.0 at c.loop-side-test.true)
-          e.result e.ensures (check_net6 a.mode a.link a.addr a.prefix p.result 8 0) (ap (λ (at : ℕ). check_net6 a.mode a.link a.addr a.prefix at 8 0) p.ensures) n.ensures.1;
+      leads = side_leads a.dir (part a.mode a.link a.addr a.prefix) c.side_length-n.result (c.side_length-n.ensures.by_index a.mode a.link a.addr (net_offset a.link + 8)) a.out.now a.work.now a.st l.out l.work l.x l.side l.invariant (rw c.past_sides-last.ensures.0 at c.loop-side-test.true)
+          c.side_end-end.result c.side_end-end.ensures (check_net6 a.mode a.link a.addr a.prefix c.net_plus-at.result 8 0) (ap (λ (at : ℕ). check_net6 a.mode a.link a.addr a.prefix at 8 0) c.net_plus-at.ensures) c.side_length-n.ensures.upper_bound;
       i-in = omega arith;
       out-len = refl;
       work-len = refl;
@@ -37,8 +36,8 @@ pub overflow_mul-start_bit : goal.overflow_mul-start_bit
 overflow_mul-start_bit c = omega (arith, c.loop-i-test.true)
 
 pub check_segment-x-requires : goal.check_segment-x-requires
-check_segment-x-requires c = let a = c.args in let z = c.past_sides-last in let l = c.loop-side in let p = c.net_plus-at in let e = c.side_end-end in let m = c.loop-i in
-    record { leads = half_leads a.mode a.link a.addr a.prefix p.result e.result l.out l.work l.x m.out m.work m.x m.i m.invariant c.loop-i-test.true c.if-prefix_len-start_bit.false; i_bound = (c.loop-i-test.true, c.if-prefix_len-start_bit.false, omega (arith, c.loop-side-test.true, z.ensures.1, p.ensures, net_low a.link)) }
+check_segment-x-requires c =  let a = c.args in let l = c.loop-side in let m = c.loop-i in
+    record { leads = half_leads a.mode a.link a.addr a.prefix c.net_plus-at.result c.side_end-end.result l.out l.work l.x m.out m.work m.x m.i m.invariant c.loop-i-test.true c.if-prefix_len-start_bit.false; i_bound = (c.loop-i-test.true, c.if-prefix_len-start_bit.false, omega (arith, c.loop-side-test.true, c.past_sides-last.ensures.1, c.net_plus-at.ensures, net_low a.link)) }
 
 pub overflow_add-i : goal.overflow_add-i
 overflow_add-i c = omega (arith, c.loop-i-test.true)
@@ -47,15 +46,14 @@ pub loop-i-smaller : goal.loop-i-smaller
 loop-i-smaller c = omega (arith, c.loop-i-test.true)
 
 pub loop-i-preserved : goal.loop-i-preserved
-loop-i-preserved c = let a = c.args in let l = c.loop-side in let p = c.net_plus-at in let e = c.side_end-end in let m = c.loop-i in let g = c.check_segment-x in
-    half_next a.mode a.link a.addr a.prefix p.result e.result l.out l.work l.x m.out m.work m.x m.i
-    g.new.0 g.new.1.0 g.result m.invariant c.loop-i-test.true c.if-prefix_len-start_bit.false g.auto.0 g.auto.1.0 g.ensures
+loop-i-preserved c = let a = c.args in let l = c.loop-side in let m = c.loop-i in half_next a.mode a.link a.addr a.prefix c.net_plus-at.result c.side_end-end.result l.out l.work l.x m.out m.work m.x m.i
+    c.check_segment-x.new.out c.check_segment-x.new.work c.check_segment-x.result m.invariant c.loop-i-test.true c.if-prefix_len-start_bit.false c.check_segment-x.auto.out c.check_segment-x.auto.work c.check_segment-x.ensures
 
 pub push_over-x-requires : goal.push_over-x-requires
-push_over-x-requires c = let a = c.args in let n = c.side_length-n in let z = c.past_sides-last in let l = c.loop-side in let p = c.net_plus-at in let e = c.side_end-end in let m = c.loop-i in
-    over_fits a.dir (part a.mode a.link a.addr a.prefix) n.result (n.ensures.0 a.mode a.link a.addr (net_offset a.link + 8)) a.out.now a.work.now a.st l.out l.work l.x l.side l.invariant (rw z.ensures.0 at c.loop-side-test.true)
-    e.result e.ensures (check_net6 a.mode a.link a.addr a.prefix p.result 8 0) (ap (λ (at : ℕ). check_net6 a.mode a.link a.addr a.prefix at 8 0) p.ensures)
-    m.out m.work m.x (halves_done a.mode a.link a.addr a.prefix p.result e.result l.out l.work l.x m.out m.work m.x m.i m.invariant (⊎_elim (λ w. inl w.left) (λ w. inr w.1.taken) c.loop-i-test.branch))
+push_over-x-requires c = let a = c.args in let l = c.loop-side in let m = c.loop-i in
+    over_fits a.dir (part a.mode a.link a.addr a.prefix) c.side_length-n.result (c.side_length-n.ensures.by_index a.mode a.link a.addr (net_offset a.link + 8)) a.out.now a.work.now a.st l.out l.work l.x l.side l.invariant (rw c.past_sides-last.ensures.0 at c.loop-side-test.true)
+    c.side_end-end.result c.side_end-end.ensures (check_net6 a.mode a.link a.addr a.prefix c.net_plus-at.result 8 0) (ap (λ (at : ℕ). check_net6 a.mode a.link a.addr a.prefix at 8 0) c.net_plus-at.ensures)
+    m.out m.work m.x (halves_done a.mode a.link a.addr a.prefix c.net_plus-at.result c.side_end-end.result l.out l.work l.x m.out m.work m.x m.i m.invariant (⊎_elim (λ w. inl w.left) (λ w. inr w.1.taken) c.loop-i-test.branch))
 
 pub overflow_add-side-in-loop-side : goal.overflow_add-side-in-loop-side
 overflow_add-side-in-loop-side c = omega (arith, c.loop-side-test.true, c.past_sides-last.ensures.1)
@@ -64,12 +62,11 @@ pub loop-side-smaller : goal.loop-side-smaller
 loop-side-smaller c = omega (arith, c.loop-side-test.true)
 
 pub loop-side-preserved : goal.loop-side-preserved
-loop-side-preserved c = let a = c.args in let n = c.side_length-n in let z = c.past_sides-last in let l = c.loop-side in let p = c.net_plus-at in let e = c.side_end-end in let m = c.loop-i in let h = c.push_over-x in
-    side_next a.dir (part a.mode a.link a.addr a.prefix) n.result (n.ensures.0 a.mode a.link a.addr (net_offset a.link + 8)) a.out.now a.work.now a.st l.out l.work l.x l.side l.invariant (rw z.ensures.0 at c.loop-side-test.true)
-    e.result e.ensures (check_net6 a.mode a.link a.addr a.prefix p.result 8 0) (ap (λ (at : ℕ). check_net6 a.mode a.link a.addr a.prefix at 8 0) p.ensures)
-    m.out m.work m.x (halves_done a.mode a.link a.addr a.prefix p.result e.result l.out l.work l.x m.out m.work m.x m.i m.invariant (⊎_elim (λ w. inl w.left) (λ w. inr w.1.taken) c.loop-i-test.branch))
-    h.new.0 h.new.1.0 h.result h.ensures (h.auto.0 ∙ m.invariant.out_len) (h.auto.1.0 ∙ m.invariant.work_len)
+loop-side-preserved c = let a = c.args in let l = c.loop-side in let m = c.loop-i in side_next a.dir (part a.mode a.link a.addr a.prefix) c.side_length-n.result (c.side_length-n.ensures.by_index a.mode a.link a.addr (net_offset a.link + 8)) a.out.now a.work.now a.st l.out l.work l.x l.side l.invariant (rw c.past_sides-last.ensures.0 at c.loop-side-test.true)
+    c.side_end-end.result c.side_end-end.ensures (check_net6 a.mode a.link a.addr a.prefix c.net_plus-at.result 8 0) (ap (λ (at : ℕ). check_net6 a.mode a.link a.addr a.prefix at 8 0) c.net_plus-at.ensures)
+    m.out m.work m.x (halves_done a.mode a.link a.addr a.prefix c.net_plus-at.result c.side_end-end.result l.out l.work l.x m.out m.work m.x m.i m.invariant (⊎_elim (λ w. inl w.left) (λ w. inr w.1.taken) c.loop-i-test.branch))
+    c.push_over-x.new.out c.push_over-x.new.work c.push_over-x.result c.push_over-x.ensures (c.push_over-x.auto.out ∙ m.invariant.out_len) (c.push_over-x.auto.work ∙ m.invariant.work_len)
 
 pub returns : goal.returns
-returns c = let a = c.args in let n = c.side_length-n in let z = c.past_sides-last in let l = c.loop-side in
-    sides_done a.dir (part a.mode a.link a.addr a.prefix) n.result (n.ensures.0 a.mode a.link a.addr (net_offset a.link + 8)) a.out.now a.work.now a.st l.out l.work l.x l.side l.invariant (rw z.ensures.0 at c.loop-side-test.false)
+returns c = let a = c.args in let l = c.loop-side in
+    sides_done a.dir (part a.mode a.link a.addr a.prefix) c.side_length-n.result (c.side_length-n.ensures.by_index a.mode a.link a.addr (net_offset a.link + 8)) a.out.now a.work.now a.st l.out l.work l.x l.side l.invariant (rw c.past_sides-last.ensures.0 at c.loop-side-test.false)

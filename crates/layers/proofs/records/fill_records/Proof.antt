@@ -211,7 +211,7 @@ module _ {M : Type 1} {𝓤 : Ura M} (𝓛 : Logic 𝓤) (at_mem : Memory → SP
             ws = filled_to p.now ys i.0
 
             k-fits : i.0 < 2 ^ 64
-            k-fits = let h : i.0 ≤ m = i.1 in omega (arith, h, m-fits)
+            k_fits = let h : i.0 ≤ m = i.1 in omega (arith, h, m-fits)
 
             next_fits : Holds (ltb i.0 m) → i.0 + 1 < 2 ^ 64
             next_fits less = let h : i.0 < m = ltb→lt i.0 m less in omega (arith, h, m-fits)

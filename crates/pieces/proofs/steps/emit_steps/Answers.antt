@@ -43,11 +43,6 @@ whole steps n from =
     let at : from + 0 ≡ from = omega arith in
     rw (all, at)
 
-record Inv (steps : List ℕ) (n from : ℕ) (o₀ w₀ : List ℕ) (x₀ : Patches) (o w : List ℕ) (x : Patches) (i : ℕ) : Type 0 where
-  made : block (emit_steps steps (n - i) (from + i)) (em o w x) ≡ block (emit_steps steps n from) (em o₀ w₀ x₀)
-  fits : Fits (emit_steps steps (n - i) (from + i)) x
-  out-len : length o ≡ length o₀
-  work-len : length w ≡ length w₀
 
 pub loop-i-init : goal.loop-i-init
 loop-i-init c =
@@ -55,8 +50,8 @@ loop-i-init c =
     record {
       made = ap (λ (l : List Slot). block l (em a.out.now a.work.now a.st)) (whole a.steps.now a.n a.from);
       fits = subst (λ (l : List Slot). Fits l a.st) (sym (whole a.steps.now a.n a.from)) c.requires;
-      out-len = refl;
-      work-len = refl;
+      out_len = refl;
+      work_len = refl;
     }
 
 pub push-x-requires : goal.push-x-requires
@@ -75,14 +70,12 @@ pub loop-i-preserved : goal.loop-i-preserved
 loop-i-preserved c =
     let p = c.loop-i in
     let a = c.args in
-    let g = c.push-x in
-    let h = c.loop-i-test.true in
-    let k = as_fixed _ _ _ _ c.step_insn.ensures g.ensures in
+    let k = as_fixed _ _ _ _ c.step_insn.ensures c.push-x.ensures in
     record {
-      made = made-next a.steps.now a.n a.from p.i _ _ _ _ _ _ h k _ p.invariant.made;
-      fits = fits_next a.steps.now a.n a.from p.i _ _ _ _ _ _ h k p.invariant.fits;
-      out-len = g.auto.0 ∙ p.invariant.out_len;
-      work-len = g.auto.1.0 ∙ p.invariant.work_len;
+      made = made-next a.steps.now a.n a.from p.i _ _ _ _ _ _ c.loop-i-test.true k _ p.invariant.made;
+      fits = fits_next a.steps.now a.n a.from p.i _ _ _ _ _ _ c.loop-i-test.true k p.invariant.fits;
+      out_len = c.push-x.auto.out ∙ p.invariant.out_len;
+      work_len = c.push-x.auto.work ∙ p.invariant.work_len;
     }
 
 pub returns : goal.returns

@@ -6,6 +6,7 @@ use Rattle.filter.specs.Ast.{net_offset}
 use Rattle.codegen.specs.Primitives.{check_net6}
 use Rattle.codegen.proofs.Halves.{half_leads, half_next, halves_done, start, end_fits, side_leads, over_fits, side_next, sides_done}
 use Rattle.filter.proofs.Links.{net_low}
+use Rattle.codegen.proofs.ip6.check_sides.Invariants.{part}
 use Rattle.codegen.proofs.ip6.check_sides.Goals as goal
 
 pub loop-side-init : goal.loop-side-init
@@ -27,9 +28,9 @@ loop-i-init c = let a = c.args in let l = c.loop-side in record {
       made = refl;
       leads = side_leads a.dir (part a.mode a.link a.addr a.prefix) c.side_length-n.result (c.side_length-n.ensures.by_index a.mode a.link a.addr (net_offset a.link + 8)) a.out.now a.work.now a.st l.out l.work l.x l.side l.invariant (rw c.past_sides-last.ensures.0 at c.loop-side-test.true)
           c.side_end-end.result c.side_end-end.ensures (check_net6 a.mode a.link a.addr a.prefix c.net_plus-at.result 8 0) (ap (λ (at : ℕ). check_net6 a.mode a.link a.addr a.prefix at 8 0) c.net_plus-at.ensures) c.side_length-n.ensures.upper_bound;
-      i-in = omega arith;
-      out-len = refl;
-      work-len = refl;
+      i_in = omega arith;
+      out_len = refl;
+      work_len = refl;
     }
 
 pub overflow_mul-start_bit : goal.overflow_mul-start_bit

@@ -1,5 +1,5 @@
-// The library that C and Rust programs link: measure, compile, evaluate, run, push the Nots down and count a capture over slices and numbers. Each returns a plain
-// status number and writes the numbers beside it through references; bindings/c/bromaveluth.h declares the same functions in C.
+// The library's functions for C and Rust programs: measure, compile, evaluate, run, push the Nots down and count a capture over slices and numbers. Each returns a plain
+// status number and writes the numbers beside it through references; `bromaveluth_c` exports them to C.
 #![tactic(auto)]
 
 ghost use Rattle.std.specs.Prelude.{◌≡◌, length};
@@ -26,8 +26,7 @@ use savefile::{Opened, open_file};
 const VERSION: u32 = 1000;
 
 // The archive's version, to be compared with the header's.
-#[unsafe(no_mangle)]
-pub extern "C" fn bromaveluth_version() -> u32
+pub fn bromaveluth_version() -> u32
     ensures { result ≡ version }
 {
     VERSION
@@ -48,8 +47,7 @@ fn asked(sheet: &[u8], link: u8, mode: u8) -> Measured
 }
 
 // 0, L in `answer`, and beside it the tokens and what `compile` asks of output and work; or the refusal, three zeros, and its place.
-#[unsafe(no_mangle)]
-pub extern "C" fn bromaveluth_measure(
+pub fn bromaveluth_measure(
     sheet: &[u8],
     link: u8,
     mode: u8,
@@ -88,8 +86,7 @@ pub extern "C" fn bromaveluth_measure(
 }
 
 // 0 and the program's length L in `answer`, or the refusal and its place there.
-#[unsafe(no_mangle)]
-pub extern "C" fn bromaveluth_compile(
+pub fn bromaveluth_compile(
     sheet: &[u8],
     link: u8,
     mode: u8,
@@ -115,8 +112,7 @@ pub extern "C" fn bromaveluth_compile(
 }
 
 // 0 and 1 in `answer` if the expression holds on the frame, 0 if not; or the refusal and its place there.
-#[unsafe(no_mangle)]
-pub extern "C" fn bromaveluth_evaluate(sheet: &[u8], link: u8, frame: &[u8], answer: &mut u64) -> u8
+pub fn bromaveluth_evaluate(sheet: &[u8], link: u8, frame: &[u8], answer: &mut u64) -> u8
     ensures value { result ≡ verdict_status (evaluate_of sheet.now link frame.now) }
     ensures answer_after { answer.new ≡ verdict_number (evaluate_of sheet.now link frame.now) }
 {
@@ -133,8 +129,7 @@ pub extern "C" fn bromaveluth_evaluate(sheet: &[u8], link: u8, frame: &[u8], ans
 }
 
 // The machine's stop, with R0 and the steps carried out beside it.
-#[unsafe(no_mangle)]
-pub extern "C" fn bromaveluth_run(
+pub fn bromaveluth_run(
     program: &[u8],
     frame: &[u8],
     start: u64,
@@ -153,8 +148,7 @@ pub extern "C" fn bromaveluth_run(
 }
 
 // 0 and in `answer` the new sheet's length in bytes, or the refusal and its place there.
-#[unsafe(no_mangle)]
-pub extern "C" fn bromaveluth_nots(sheet: &[u8], output: &mut [u8], answer: &mut u64) -> u8
+pub fn bromaveluth_nots(sheet: &[u8], output: &mut [u8], answer: &mut u64) -> u8
     ensures value { result ≡ pushed_status (push_of sheet.now (length output.old)) }
     ensures answer_after { answer.new ≡ pushed_number (push_of sheet.now (length output.old)) }
     ensures output_after { output.new ≡ sheet_after (push_of sheet.now (length output.old)) (new_sheet sheet.now) output.old }
@@ -172,8 +166,7 @@ pub extern "C" fn bromaveluth_nots(sheet: &[u8], output: &mut [u8], answer: &mut
 }
 
 // 0 and in `answer` the link that the savefile picks; or 40 to 43, and there the byte where what is refused begins.
-#[unsafe(no_mangle)]
-pub extern "C" fn bromaveluth_capture_open(file: &[u8], answer: &mut u64) -> u8
+pub fn bromaveluth_capture_open(file: &[u8], answer: &mut u64) -> u8
     ensures value { result ≡ opened_status (opened_of file.now) }
     ensures answer_after { answer.new ≡ opened_number (opened_of file.now) }
 {
@@ -221,8 +214,7 @@ fn tell(told: Captured, passed: &mut u64, dropped: &mut u64, cut: &mut u64, answ
 }
 
 // 0, the three counts, and in `answer` the file's length; or the refusal, counts of zero, and its place there.
-#[unsafe(no_mangle)]
-pub extern "C" fn bromaveluth_capture(
+pub fn bromaveluth_capture(
     file: &[u8],
     sheet: &[u8],
     mode: u8,
@@ -251,8 +243,7 @@ pub extern "C" fn bromaveluth_capture(
 }
 
 // The same of at most `most` records from byte `at` on; `answer` is then where to go on.
-#[unsafe(no_mangle)]
-pub extern "C" fn bromaveluth_capture_part(
+pub fn bromaveluth_capture_part(
     file: &[u8],
     sheet: &[u8],
     mode: u8,

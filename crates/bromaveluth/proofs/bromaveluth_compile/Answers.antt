@@ -5,12 +5,12 @@ use Rattle.bromaveluth.proofs.bromaveluth_compile.Goals as goal
 
 pub returns-in-Refused : goal.returns-in-Refused
 unfolding compiled_status compiled_number
-returns-in-Refused c = 
+returns-in-Refused c =
     let m = sym c.compile.ensures.value ∙ c.in-Refused.is in
     record { value = rw m refl; answer_after = rw m refl; output_after = c.compile.ensures.output_after; work_after = c.compile.ensures.work_after }
 
 pub returns-in-Program : goal.returns-in-Program
 unfolding compiled_status compiled_number
-returns-in-Program c = 
+returns-in-Program c =
     let m = sym c.compile.ensures.value ∙ c.in-Program.is in
     record { value = rw m refl; answer_after = rw m refl; output_after = c.compile.ensures.output_after; work_after = c.compile.ensures.work_after }

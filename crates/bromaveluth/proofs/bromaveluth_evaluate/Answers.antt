@@ -11,12 +11,12 @@ as_number false = refl
 
 pub returns-in-Refused : goal.returns-in-Refused
 unfolding verdict_status verdict_number
-returns-in-Refused c = 
+returns-in-Refused c =
     let m = sym c.evaluate.ensures ∙ c.in-Refused.is in
     record { value = rw m refl; answer_after = rw m refl }
 
 pub returns-in-Judged : goal.returns-in-Judged
 unfolding verdict_status verdict_number
-returns-in-Judged c = 
+returns-in-Judged c =
     let m = sym c.evaluate.ensures ∙ c.in-Judged.is in
     record { value = rw m refl; answer_after = rw m (as_number c.in-Judged.holds) }

@@ -17,12 +17,12 @@ overflow_add-work c =
 
 pub returns-in-Refused : goal.returns-in-Refused
 unfolding asked_status asked_tokens asked_output asked_work asked_number
-returns-in-Refused c = 
+returns-in-Refused c =
     let m = sym c.asked.ensures ∙ c.in-Refused.is in
     record { value = rw m refl; tokens_after = rw m refl; output_after = rw m refl; work_after = rw m refl; answer_after = rw m refl }
 
 pub returns-in-Length : goal.returns-in-Length
 unfolding asked_status asked_tokens asked_output asked_work asked_number
-returns-in-Length c = 
+returns-in-Length c =
     let m = sym c.asked.ensures ∙ c.in-Length.is in
     record { value = rw m refl; tokens_after = rw m refl; output_after = rw m refl; work_after = rw m refl; answer_after = rw m refl }

@@ -5,12 +5,12 @@ use Rattle.bromaveluth.proofs.bromaveluth_nots.Goals as goal
 
 pub returns-in-Refused : goal.returns-in-Refused
 unfolding pushed_status pushed_number
-returns-in-Refused c = 
+returns-in-Refused c =
     let m = sym c.push_nots.ensures.value ∙ c.in-Refused.is in
     record { value = rw m refl; answer_after = rw m refl; output_after = c.push_nots.ensures.output_after }
 
 pub returns-in-Length : goal.returns-in-Length
 unfolding pushed_status pushed_number
-returns-in-Length c = 
+returns-in-Length c =
     let m = sym c.push_nots.ensures.value ∙ c.in-Length.is in
     record { value = rw m refl; answer_after = rw m refl; output_after = c.push_nots.ensures.output_after }

@@ -132,11 +132,21 @@ def mnemonic(insn):
 
 # ------------------------------------------------------------ the built programs
 
+def place(program):
+    """Where `rt run` and `rt ci` put a program."""
+    return os.path.join(ROOT, 'crates', program, 'out', program)
+
+
+def command(program):
+    """What proves and builds a program, from the top of the tree."""
+    return '(cd crates/%s && rt run </dev/null)' % program
+
+
 def built(program):
     """Stops with the command that builds a program, if it is not built."""
-    if not os.access(os.path.join(ROOT, 'target/bin', program), os.X_OK):
-        raise Lacking("the program %s is not built: run 'rt check %s' first, which proves all that it stands on (some minutes)"
-                      % (program, program))
+    if not os.access(place(program), os.X_OK):
+        raise Lacking("the program %s is not built: run '%s' first, which proves all that it stands on (some minutes)"
+                      % (program, command(program)))
 
 
 def ask(program, data):

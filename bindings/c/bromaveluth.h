@@ -1,6 +1,6 @@
 /* libbromaveluth.a: a packet-filter generator, an evaluator, an eBPF step machine, a reader of captures, and Nots pushed down, for x86-64 Linux.
  *
- * `rt staticlib bromaveluth` proves the functions below against their contracts (crates/bromaveluth/src/lib.rt) and writes the archive.
+ * `tools/archive` proves the functions below against their contracts (crates/bromaveluth_c/src/lib.rt) and writes the archive.
  * A comment here says in words what a contract says in definitions. docs/SHEET.md says how a filter is written as a sheet,
  * docs/GLOSSARY.md what a word means that is used without a word here; bindings/c/example.c is a whole program.
  *
@@ -29,14 +29,14 @@
  * It is measured and not proved. A program that binds memset lazily needs what its loader takes at the first call as well.
  *   function                   one primitive    any filter
  *   bromaveluth_version                    8             8
- *   bromaveluth_measure                  752           752
- *   bromaveluth_compile                1,408         1,408
- *   bromaveluth_evaluate                 848        94,736
+ *   bromaveluth_measure                  616           616
+ *   bromaveluth_compile                1,288         1,288
+ *   bromaveluth_evaluate                 752        78,272
  *   bromaveluth_run                      136           136
- *   bromaveluth_nots                     336        37,192
- *   bromaveluth_capture_open              80            80
- *   bromaveluth_capture                1,776         1,776
- *   bromaveluth_capture_part           1,760         1,760
+ *   bromaveluth_nots                     248        32,976
+ *   bromaveluth_capture_open              48            48
+ *   bromaveluth_capture                1,592         1,592
+ *   bromaveluth_capture_part           1,608         1,608
  */
 #ifndef BROMAVELUTH_H
 #define BROMAVELUTH_H

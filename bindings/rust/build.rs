@@ -1,4 +1,4 @@
-//! Says where the archive is: the folder in BROMAVELUTH_LIB, else target/staticlib, where `rt staticlib bromaveluth` writes it.
+//! Says where the archive is: the folder in BROMAVELUTH_LIB, else target/staticlib, where `tools/archive` writes it.
 
 use std::{env, path::Path, process};
 
@@ -9,7 +9,7 @@ fn main() {
     println!("cargo:rerun-if-changed={folder}/libbromaveluth.a");
     if !Path::new(&folder).join("libbromaveluth.a").is_file() {
         eprintln!("bromaveluth: there is no libbromaveluth.a in {folder}");
-        eprintln!("bromaveluth: `rt staticlib bromaveluth`, at the repository's root, writes it to target/staticlib;");
+        eprintln!("bromaveluth: `tools/archive`, at the repository's root, proves it and writes it to target/staticlib;");
         eprintln!("bromaveluth: BROMAVELUTH_LIB names another folder");
         process::exit(1);
     }

@@ -1,7 +1,7 @@
 //! Safe functions over `libbromaveluth.a`: [`measure`] a filter's sheet, [`compile`] it, [`evaluate`] it on a frame, [`run`] its program,
 //! push its Nots down ([`nots`]), count what it passes of a [`mod@capture`].
 //!
-//! `rt staticlib bromaveluth` proves the archive's functions against their contracts and writes it; it links into x86-64 Linux programs.
+//! `tools/archive` proves the archive's functions against their contracts and writes it; it links into x86-64 Linux programs.
 //! The functions take any bytes and any lengths; they panic only at an answer that the archive's contracts rule out, as of another
 //! archive. docs/SHEET.md says how a filter is written as a sheet, docs/GLOSSARY.md what the words mean, bindings/c/bromaveluth.h how
 //! much stack a call takes, of what type the programs are and what a kernel may still refuse.

@@ -59,6 +59,12 @@ def answers(crate):
     return found
 
 
+def is_about(goal, fact):
+    """Whether a goal that was refused, by its name, is the one or of the kind that `fact:` says."""
+    kinds = {"loop-holds": r".+-init", "loop-again": r".+-preserved"}
+    return bool(re.fullmatch(kinds.get(fact, re.escape(fact) + "(-.*)?"), goal))
+
+
 def law_edits(crate):
     """The must-fail edits that are about laws of the crate's definitions and about no function."""
     with open(os.path.join(HERE, crate + ".txt"), encoding="utf-8") as file:

@@ -5,16 +5,15 @@ use mathlib.Core.List.{List, [], ◌∷◌, ◌++◌}
 use Rattle.filter.specs.Bytes.{be2, be4, be6, be8}
 use Rattle.filter.specs.Ast.{link_of, link_record, ether_proto_offset, net_offset, has_macs, dir_of, cmp_of, arith_of, layer_of, access_size_of, proto_of, maybe_proto_of}
 use Rattle.filter.specs.First.{first, any}
-use Rattle.filter.specs.Record.{ipv6_at, ip_net_at, ipv6_net_at, id_at, label_at, load_at, rhs_at, access_at, dir_at, proto_at, host_at, host6_at, port_at, range_at, net_at, net6_at, ether_host_at, mpls_at, session_at, len_at, decode_at, step_at}
+use Rattle.filter.specs.Record.{ipv6_at, id_at, label_at, load_at, rhs_at, access_at, dir_at, proto_at, host_at, net_at, net6_at, decode_at, step_at}
 use Rattle.filter.specs.Sheet.{step_count, prim_count, token_count, sections_of, steps_part, prims_part, tokens_part}
 use Rattle.filter.specs.Wrong.{q_most, field_most, optional, number_most, plain_most, access_most, most, least, wrong_byte, record_wrong, step_wrong, token_wrong}
 use Rattle.filter.specs.declared.ast.LinkType.TheVariants.{Ethernet, RawIp}
 use Rattle.tree.specs.Shape.{wanted, met_by, scan, shape_of}
 use Rattle.tree.specs.Tokens.{count}
 use Rattle.checks.specs.Check.{wrong_in, sheet_wrong, lowest_wrong, takes, steps_before, one_tree, complete, base_of, far, far_offset, shifts, big_shift, shift_at, check_accesses, check_parts, check_sections, check_of}
-use Rattle.checks.specs.Refusal.{etherless, unless_ether, unless_macs, ether_refusal, proto_refusal, op_refusal, step_refusal, steps_refusal, rhs_refusal, access_refusal, refusal}
+use Rattle.checks.specs.Refusal.{unless_ether, unless_macs, ether_refusal, proto_refusal, refusal}
 use Rattle.checks.specs.Length as L
-use Rattle.checks.specs.declared.check.Checked.{Checked}
 use Rattle.checks.specs.declared.check.Checked.TheVariants.{Refused, Good}
 
 -- sixteen bytes of zeros

@@ -1,6 +1,6 @@
 -- Laws of L: the loops over the tokens and over the primitives.
 use Prim.Native.Nat.{ℕ, zero, suc, ◌+◌, ◌*◌}
-use mathlib.Core.Path.{◌≡◌, refl, sym, ap, ◌∙◌}
+use mathlib.Core.Path.{◌≡◌, refl}
 use mathlib.Core.List.{List, [], ◌∷◌}
 use mathlib.Core.Bool.{Bool, true, false, cond}
 use native.Mathlib.Omega.{arith}

@@ -1,6 +1,6 @@
 -- Refusals 2 to 4 apart from those for which a link is asked.
-use Prim.Native.Nat.{ℕ, ◌+◌, ◌-◌, ◌*◌, ◌<◌, ◌≤◌}
-use mathlib.Core.Path.{◌≡◌, refl, sym, ap, ◌∙◌, subst}
+use Prim.Native.Nat.{ℕ, ◌+◌, ◌*◌, ◌≤◌}
+use mathlib.Core.Path.{◌≡◌, refl, sym, subst}
 use mathlib.Core.Bool.{Bool, true, false, cond, ◌&&◌}
 use mathlib.Core.List.{List}
 use native.Mathlib.Omega.{arith}

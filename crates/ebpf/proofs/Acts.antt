@@ -1,5 +1,5 @@
 -- Laws of a load from the frame and of what stands at a place: each case of a definition, by the fact that leads there.
-use Rattle.std.proofs.Common.{◌≡◌, ℕ, ◌+◌, ◌-◌, ◌*◌, ◌/◌, ◌<◌, ◌≤◌, Bool, List, length, refl, ◌∙◌, le-ltb, lt-ltb, le-leb}
+use Rattle.std.proofs.Common.{◌≡◌, ℕ, ◌+◌, ◌-◌, ◌*◌, ◌/◌, ◌<◌, ◌≤◌, Bool, List, length, le-ltb, lt-ltb, le-leb}
 use borrow.Author.Tests.{lt-leb}
 use Rattle.ebpf.specs.Insn.{insn_at}
 use Rattle.ebpf.specs.Form.{form_of}
@@ -11,7 +11,6 @@ use Rattle.ebpf.specs.declared.act.Act.{Act}
 use Rattle.ebpf.specs.declared.act.Act.TheVariants.{Writes}
 use Rattle.ebpf.specs.declared.step.State.{State}
 use Rattle.ebpf.specs.declared.step.Status.{Status}
-use Rattle.ebpf.specs.declared.step.Turn.{Turn}
 
 module _ (frame : List ℕ) (start size dst at : ℕ) where
   pub below_frame : at < start → outside ≡ frame_act frame start size dst at

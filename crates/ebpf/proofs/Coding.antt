@@ -1,12 +1,11 @@
 -- The laws of an instruction's bytes: where there is room and where not, and the two round trips.
-use Rattle.std.proofs.Common.{◌≡◌, ℕ, suc, ◌+◌, ◌*◌, ◌/◌, ◌%◌, ◌^◌, ◌<◌, ◌≤◌, List, [], ◌∷◌, ◌++◌, length, get_or, take, drop, set, sym, refl, ap, ◌∙◌, subst, add-zero, arith, length-append, length-take-le, get_or-append-add, le-leb}
+use Rattle.std.proofs.Common.{◌≡◌, ℕ, ◌+◌, ◌*◌, ◌/◌, ◌%◌, ◌^◌, ◌<◌, ◌≤◌, List, ◌++◌, length, get_or, take, drop, set, ap, ◌∙◌, subst, add-zero, arith, length-append, length-take-le, get_or-append-add, le-leb}
 use native.Mathlib.Numerals.{towards_suc}
 use borrow.Author.Tests.{lt-leb}
 use lib.ListN.{get_or-append}
 use lib.Seq.{sets, length-sets, set-get_or, sets-eq}
 use Rattle.ebpf.specs.Insn.{to_le_bytes, insn_at, stored_at, fetch_at}
 use Rattle.ebpf.specs.declared.insn.Insn.{Insn}
-use Rattle.ebpf.specs.declared.insn.Fetched.{Fetched}
 use Rattle.ebpf.specs.declared.insn.Fetched.TheVariants.{Here, Nothing}
 
 pub store_full : (s : List ℕ) (at : ℕ) (i : Insn) → length s < at + 8 → s ≡ stored_at s at i

@@ -9,7 +9,6 @@ use Rattle.ebpf.specs.Regs.{fresh, known_of, value_of, with_of}
 use Rattle.ebpf.specs.Step.{le_at, context_act, frame_act, load_act, readable, reg64_act, imm64_act, imm32_act, swap_act, branch_act, branch_reg_act, exit_act, act_of, act_at, regs_after, place_after, status_of, turn_of, step_of}
 use Rattle.ebpf.specs.Run.{first_state, ended_of, go_of, run_of}
 use Rattle.ebpf.specs.declared.insn.Insn.{Insn}
-use Rattle.ebpf.specs.declared.run.Outcome.{Outcome}
 
 -- Document 01's listing of K2.
 abbrev pub k2_insns : List Insn

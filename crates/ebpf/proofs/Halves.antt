@@ -1,5 +1,5 @@
 -- The halves of a byte, by masks and shifts as the code has them and by division as the definitions have them.
-use Rattle.std.proofs.Common.{◌≡◌, ℕ, ◌+◌, ◌*◌, ◌/◌, ◌%◌, ◌^◌, ◌<◌, refl, ◌∙◌, arith}
+use Rattle.std.proofs.Common.{◌≡◌, ℕ, ◌+◌, ◌*◌, ◌/◌, ◌%◌, ◌^◌, ◌<◌, ◌∙◌, arith}
 use lib.Bits.{bit_and, bit_or, and_mask, or_shifted_r}
 
 pub low_half : (n : ℕ) → bit_and n 15 ≡ n % 16

@@ -6,9 +6,7 @@ use Rattle.ebpf.specs.Run.{ended_of, go_of, run_of, first_state}
 use Rattle.ebpf.specs.declared.regs.Regs.{Regs}
 use Rattle.ebpf.specs.declared.act.Act.{Act}
 use Rattle.ebpf.specs.declared.act.Act.TheVariants.{Writes, Jumps, Falls, Halts}
-use Rattle.ebpf.specs.declared.step.Status.{Status}
 use Rattle.ebpf.specs.declared.step.Status.TheVariants.{Going, Halted}
-use Rattle.ebpf.specs.declared.run.Outcome.{Outcome}
 
 -- The number of registers stays.
 values_stay : (a : Act) (r : Regs) → length (regs_after a r).values ≡ length r.values

@@ -1,12 +1,12 @@
 -- An instruction that is fine, by the row of the table that it stands in: what its function asks, and that the answer is the machine's.
-use Rattle.std.proofs.Common.{◌≡◌, ℕ, ◌+◌, ◌/◌, ◌%◌, ◌^◌, ◌<◌, ◌≤◌, Bool, true, false, cond, eqb, List, length, get_or, sym, refl, ap, ◌∙◌, subst, arith, ne_eqb}
-use Rattle.ebpf.specs.Alu.{sext16, sext32, alu32, alu64, swapped, compares}
+use Rattle.std.proofs.Common.{◌≡◌, ℕ, ◌+◌, ◌/◌, ◌%◌, ◌^◌, ◌<◌, ◌≤◌, Bool, true, false, cond, eqb, List, length, get_or, sym, refl, subst, arith, ne_eqb}
+use Rattle.ebpf.specs.Alu.{sext32, compares}
 use Rattle.ebpf.specs.Form.{Form, NotOurs, form_of, form_at, load_form, reg64_form, imm64_form, imm32_form, swap_form, jump_form, branch_form, branch_reg_form, exit_form}
 use Rattle.ebpf.specs.Regs.{regs_of}
-use Rattle.ebpf.specs.Step.{le_at, taken, act_of}
+use Rattle.ebpf.specs.Step.{taken, act_of}
 use Rattle.ebpf.specs.declared.insn.Insn.{Insn}
 use Rattle.ebpf.specs.declared.act.Act.{Act}
-use Rattle.ebpf.specs.declared.act.Act.TheVariants.{Writes, Jumps, Falls, Halts}
+use Rattle.ebpf.specs.declared.act.Act.TheVariants.{Jumps, Halts}
 use Rattle.ebpf.specs.Sure.{Fine, Low, address_of, sure_load, sure_word, sure_reg64, sure_imm64, sure_imm32, sure_swap, sure_branch, sure_branch_reg}
 use Rattle.ebpf.proofs.SureRows.{imm64_row, reg64_row, imm32_row, swap_row, jump_row, branch_row, branch_reg_row, exit_row, load_row, word_row}
 

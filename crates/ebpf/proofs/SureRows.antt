@@ -1,13 +1,12 @@
 -- What the instruction of each form does where it is fine: its registers are among the seven, its bytes are in the frame, and no test is needed.
-use Rattle.std.proofs.Common.{◌≡◌, ℕ, ◌+◌, ◌-◌, ◌/◌, ◌%◌, ◌^◌, ◌<◌, ◌≤◌, Bool, true, false, cond, not, ◌&&◌, T, eqb, ltb, leb, List, length, get_or, sym, refl, ap, ◌∙◌, arith, eqb→eq, ltb→lt, leb→le, eq-eqb, le-leb}
+use Rattle.std.proofs.Common.{◌≡◌, ℕ, ◌+◌, ◌/◌, ◌%◌, ◌^◌, ◌<◌, ◌≤◌, Bool, true, false, cond, not, ◌&&◌, T, eqb, ltb, leb, List, length, get_or, sym, refl, ◌∙◌, arith, eqb→eq, ltb→lt, leb→le}
 use native.Mathlib.Nat.{sub-zero}
-use borrow.Author.Tests.{lt-leb}
 use Rattle.ebpf.specs.Alu.{sext16, sext32, alu32, alu64, swapped, compares}
-use Rattle.ebpf.specs.Form.{Form, NotOurs, Context, Load, Swap, only, plain, allowed, load_form, reg64_form, imm64_form, imm32_form, swap_form, jump_form, branch_form, branch_reg_form, exit_form}
+use Rattle.ebpf.specs.Form.{Form, Context, Load, Swap, only, plain, allowed, load_form, reg64_form, imm64_form, imm32_form, swap_form, jump_form, branch_form, branch_reg_form, exit_form}
 use Rattle.ebpf.specs.Regs.{regs_of, known_of, value_of}
 use Rattle.ebpf.specs.Step.{le_at, context_act, frame_act, load_act, readable, reg64_act, imm64_act, imm32_act, swap_act, branch_act, branch_reg_act, exit_act, taken, act_of}
 use Rattle.ebpf.specs.declared.act.Act.{Act}
-use Rattle.ebpf.specs.declared.act.Act.TheVariants.{Writes, Jumps, Falls, Halts}
+use Rattle.ebpf.specs.declared.act.Act.TheVariants.{Writes, Jumps, Halts}
 use Rattle.ebpf.specs.Sure.{Fine, Low}
 
 pub fine_if : (b : Bool) (a : Act) (s r0 : ℕ) → (s ≡ 0 → ⊥) → Fine (cond b a (Halts s r0)) → (b ≡ true) × Fine a

@@ -1,5 +1,5 @@
 -- A run that stops 0: each of its steps is fine, there is an instruction and a step is left.
-use Rattle.std.proofs.Common.{◌≡◌, ℕ, zero, suc, ◌+◌, ◌-◌, ◌*◌, ◌/◌, ◌%◌, ◌^◌, ◌<◌, ◌≤◌, Bool, true, false, cond, not, ◌&&◌, T, eqb, ltb, List, length, sym, refl, ap, ◌∙◌, arith, ltb→lt, nltb→le, length-set, le-ltb, lt-ltb}
+use Rattle.std.proofs.Common.{◌≡◌, ℕ, ◌+◌, ◌-◌, ◌*◌, ◌/◌, ◌%◌, ◌^◌, ◌<◌, ◌≤◌, Bool, true, false, not, ◌&&◌, eqb, ltb, List, length, sym, refl, ap, ◌∙◌, arith, ltb→lt, nltb→le, length-set, lt-ltb}
 use Rattle.ebpf.specs.Insn.{insn_at}
 use Rattle.ebpf.specs.Form.{form_of}
 use Rattle.ebpf.specs.Regs.{regs_of, with_of}
@@ -10,7 +10,7 @@ use Rattle.ebpf.specs.declared.act.Act.TheVariants.{Writes, Jumps, Falls, Halts}
 use Rattle.ebpf.specs.declared.run.Outcome.{Outcome}
 use Rattle.ebpf.specs.declared.step.Status.TheVariants.{Going, Halted}
 use Rattle.ebpf.proofs.Runs.{go_next, go_halt, go_spent}
-use Rattle.ebpf.specs.Sure.{Fine, Low, values_after}
+use Rattle.ebpf.specs.Sure.{Fine, values_after}
 use Rattle.ebpf.proofs.SureRows.{is_T, fine_if}
 
 -- A run that stops 0 is the steps, with no refusal 35 before.

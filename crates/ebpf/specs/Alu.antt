@@ -1,5 +1,5 @@
 -- The arithmetic of RFC 9669. A number of k bits is a natural number below 2 ^ k; a negative one is its two's complement.
-use Rattle.std.specs.Prelude.{ℕ, ◌+◌, ◌-◌, ◌*◌, ◌/◌, ◌%◌, ◌^◌, Bool, true, false, cond, not, ◌==◌, bit_and, bit_or, bit_xor, nat_le, nat_lt}
+use Rattle.std.specs.Prelude.{ℕ, ◌+◌, ◌-◌, ◌*◌, ◌/◌, ◌%◌, ◌^◌, Bool, false, cond, not, ◌==◌, bit_and, bit_or, bit_xor, nat_le, nat_lt}
 use Rattle.ebpf.specs.Opcode.{ADD, SUB, MUL, DIV, OR, AND, LSH, RSH, XOR, JEQ, JGT, JGE, JSET, JNE, JLT, JLE}
 
 -- Section 2.3: 16 and 32 bits widened to 64 with their sign.

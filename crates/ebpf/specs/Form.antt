@@ -1,6 +1,6 @@
 -- Stop 30 of document 01: the forms that a filter program is made of in one mode or the other, by opcode, with their reserved
 -- fields; every other instruction is NotOurs.
-use Rattle.std.specs.Prelude.{ℕ, ◌/◌, ◌%◌, Bool, true, false, cond, not, ◌&&◌, ◌==◌, nat_lt}
+use Rattle.std.specs.Prelude.{ℕ, ◌/◌, ◌%◌, Bool, true, cond, not, ◌&&◌, ◌==◌, nat_lt}
 use Rattle.ebpf.specs.Opcode.{LDX, ALU, JMP, JMP32, ALU64, K, X, ADD, SUB, MUL, DIV, OR, AND, LSH, RSH, XOR, MOV, END, TO_BE}
 use Rattle.ebpf.specs.Opcode.{JA, JEQ, JGT, JGE, JSET, JNE, EXIT, JLT, JLE, MEM, WORD, HALF, BYTE, opcode, load_opcode}
 use Rattle.ebpf.specs.declared.insn.Insn.{Insn}

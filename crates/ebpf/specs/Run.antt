@@ -5,7 +5,6 @@ use Rattle.ebpf.specs.Step.{step_of}
 use Rattle.ebpf.specs.declared.step.State.{State}
 use Rattle.ebpf.specs.declared.step.Status.{Status}
 use Rattle.ebpf.specs.declared.step.Status.TheVariants.{Going, Halted}
-use Rattle.ebpf.specs.declared.step.Turn.{Turn}
 use Rattle.ebpf.specs.declared.run.Outcome.{Outcome}
 
 unfoldable pub first_state : State

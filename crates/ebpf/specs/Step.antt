@@ -1,5 +1,5 @@
 -- One step of the machine, a little-endian host (RFC 9669 and document 01, "The machine").
-use Rattle.std.specs.Prelude.{◌≡◌, ℕ, ◌+◌, ◌-◌, ◌*◌, ◌/◌, ◌%◌, ◌^◌, ◌≤◌, Bool, true, false, cond, List, length, ◌==◌, ◌≢◌, nat_le, nat_lt, slice_index}
+use Rattle.std.specs.Prelude.{ℕ, ◌+◌, ◌-◌, ◌*◌, ◌/◌, ◌%◌, ◌^◌, ◌≤◌, Bool, true, cond, List, length, ◌==◌, ◌≢◌, nat_le, nat_lt, slice_index}
 use Rattle.ebpf.specs.Opcode.{MOV, JMP}
 use Rattle.ebpf.specs.Insn.{insn_at}
 use Rattle.ebpf.specs.Alu.{sext16, sext32, alu32, alu64, swapped, compares}

@@ -1,6 +1,6 @@
 -- Laws of the sections: their size, and that a count that is cut is refused.
-use Prim.Native.Nat.{ℕ, ◌+◌, ◌*◌, ◌<◌, ◌≤◌}
-use mathlib.Core.Path.{◌≡◌, refl, sym, ap, ◌∙◌}
+use Prim.Native.Nat.{ℕ, ◌+◌, ◌*◌, ◌<◌}
+use mathlib.Core.Path.{◌≡◌, refl}
 use mathlib.Core.Bool.{Bool, true, false, cond}
 use mathlib.Core.List.{List}
 use native.Mathlib.Omega.{arith}
@@ -8,7 +8,6 @@ use borrow.Author.Tests.{eqb-true, ne_eqb}
 use lib.Dec.{eqb}
 use lib.ListN.{length}
 use Rattle.filter.specs.Sheet.{step_count, prim_count, token_count, sections_of}
-use Rattle.filter.specs.declared.sheet.Sections.{Sections}
 use Rattle.filter.specs.declared.sheet.Sections.TheVariants.{Found, Wrong}
 
 sized_by : (n x y z : ℕ) {a b c : ℕ} (t : Bool) → eqb n (5 * x + 24 * y + z + 6) ≡ t → cond t (Found x y z) Wrong ≡ Found a b c → n ≡ 5 * a + 24 * b + c + 6

@@ -1,16 +1,12 @@
 -- "Comparison constant: a number compared for equality or order, the fixed ones of IpBroadcast and IpMulticast, and a MAC's first four bytes
 -- included; a net's is the address with the mask applied. BitAnd has none." Plain mode's promise is for trees whose constants are all below 2^31.
-use Rattle.std.specs.Prelude.{ℕ, ◌+◌, ◌*◌, ◌/◌, ◌^◌, Bool, true, ◌&&◌, List, bit_and, nat_lt}
-use Rattle.filter.specs.First.{any}
-use Rattle.filter.specs.Record.{decode_at}
-use Rattle.filter.specs.declared.ast.IpNet.{IpNet}
+use Rattle.std.specs.Prelude.{ℕ, ◌/◌, ◌^◌, Bool, true, bit_and, nat_lt}
 use Rattle.filter.specs.declared.ast.MaybeLabel.{MaybeLabel}
 use Rattle.filter.specs.declared.ast.MaybeLabel.TheVariants.{NoLabel, SomeLabel}
 use Rattle.filter.specs.declared.ast.CmpOp.{CmpOp}
 use Rattle.filter.specs.declared.ast.CmpOp.TheVariants.{Eq, Ne, Lt, Le, Gt, Ge, BitAnd}
 use Rattle.filter.specs.declared.ast.CmpRhs.{CmpRhs}
 use Rattle.filter.specs.declared.ast.CmpRhs.TheVariants.{Const, Load}
-use Rattle.filter.specs.declared.ast.ByteAccess as access
 use Rattle.filter.specs.declared.ast.Primitive.{Primitive}
 use Rattle.filter.specs.declared.ast.Primitive.TheVariants.{Host, Host6, Port, PortRange, Net, Net6, Proto, EtherHost, EtherProto, EtherMulticast, IpBroadcast, IpMulticast, Ip6Multicast, Vlan, Mpls, PppoeDiscovery, PppoeSession, IpProtoChain, Ip6ProtoChain, Len, Inbound, Outbound, ByteAccess}
 

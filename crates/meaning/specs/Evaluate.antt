@@ -1,6 +1,6 @@
 -- What a sheet says of a frame: its tree over its primitives, and what the evaluator answers.
-use Rattle.std.specs.Prelude.{ℕ, ◌+◌, ◌*◌, Bool, true, false, cond, not, List, ◌==◌, nat_lt}
-use Rattle.tree.specs.Tree.{Tree, depth, holds, tree_of}
+use Rattle.std.specs.Prelude.{ℕ, ◌*◌, Bool, cond, not, List, ◌==◌, nat_lt}
+use Rattle.tree.specs.Tree.{depth, holds, tree_of}
 use Rattle.filter.specs.First.{first}
 use Rattle.filter.specs.Ast.{link_of}
 use Rattle.filter.specs.Record.{decode_at}

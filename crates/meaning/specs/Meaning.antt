@@ -19,7 +19,6 @@ use Rattle.filter.specs.declared.ast.MaybeLabel.{MaybeLabel}
 use Rattle.filter.specs.declared.ast.MaybeLabel.TheVariants.{NoLabel, SomeLabel}
 use Rattle.filter.specs.declared.ast.Ipv6Addr.{Ipv6Addr}
 use Rattle.filter.specs.declared.ast.IpNet.{IpNet}
-use Rattle.filter.specs.declared.ast.Ipv6Net.{Ipv6Net}
 use Rattle.filter.specs.declared.ast.ArithOp.{ArithOp}
 use Rattle.filter.specs.declared.ast.ArithOp.TheVariants.{Add, Sub, Mul, Div, Mod, And, Or, Xor, Shl, Shr}
 use Rattle.filter.specs.declared.ast.CmpOp.{CmpOp}
@@ -30,7 +29,6 @@ use Rattle.filter.specs.declared.ast.Layer as layers
 use Rattle.filter.specs.declared.ast.Layer.TheVariants as layer
 use Rattle.filter.specs.declared.ast.CmpRhs.{CmpRhs}
 use Rattle.filter.specs.declared.ast.CmpRhs.TheVariants.{Const, Load}
-use Rattle.filter.specs.declared.ast.Step.{Step}
 use Rattle.filter.specs.declared.ast.ByteAccess as access
 use Rattle.filter.specs.declared.ast.Primitive.{Primitive}
 use Rattle.filter.specs.declared.ast.Primitive.TheVariants.{Host, Host6, Port, PortRange, Net, Net6, Proto, EtherHost, EtherProto, EtherMulticast, IpBroadcast, IpMulticast, Ip6Multicast, Vlan, Mpls, PppoeDiscovery, PppoeSession, IpProtoChain, Ip6ProtoChain, Len, Inbound, Outbound, ByteAccess}

@@ -4,7 +4,6 @@ use mathlib.Core.Path.{◌≡◌, refl}
 use mathlib.Core.Bool.{true, false}
 use mathlib.Core.List.{List, [], ◌∷◌, ◌++◌}
 use Rattle.savefile.specs.Savefile.{joined, number_at, is_magic, magic_of, header_in, header_of, next_of, walk_of, file_walk, walked_of, opened_of}
-use Rattle.savefile.specs.declared.Opened.{Opened}
 use Rattle.savefile.specs.declared.Opened.TheVariants.{Capture, Refused}
 
 abbrev big_micro : List ℕ

@@ -1,12 +1,12 @@
 -- What an opened file says of its header.
 use Prim.Native.Nat.{ℕ, ◌≤◌}
-use mathlib.Core.Path.{◌≡◌, refl, sym, ◌∙◌}
+use mathlib.Core.Path.{◌≡◌, refl}
 use mathlib.Core.Bool.{Bool, true, false, cond}
 use mathlib.Core.List.{List}
 use native.Mathlib.Omega.{arith}
 use lib.ListN.{length}
-use lib.Dec.{T, eqb, ltb, nltb→le}
-use Rattle.savefile.specs.Savefile.{number_at, magic_of, header_in, by_magic, header_of, file_walk, walked_of, whole_of, opened_of}
+use lib.Dec.{eqb, ltb, nltb→le}
+use Rattle.savefile.specs.Savefile.{magic_of, header_in, by_magic, header_of, file_walk, walked_of, whole_of, opened_of}
 use Rattle.savefile.specs.declared.Magic.{Magic}
 use Rattle.savefile.specs.declared.Magic.TheVariants as magic
 use Rattle.savefile.specs.declared.Opened.{Opened}

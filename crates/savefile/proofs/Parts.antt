@@ -1,12 +1,12 @@
 -- THEOREM: a walk of m + n records is a walk of m and, from where it ended, one of n.
-use Prim.Native.Nat.{ℕ, zero, suc, ◌+◌, ◌*◌, ◌-◌, ◌<◌, ◌≤◌}
-use mathlib.Core.Path.{◌≡◌, refl, sym, ap, ◌∙◌}
+use Prim.Native.Nat.{ℕ, zero, suc, ◌+◌, ◌-◌, ◌<◌, ◌≤◌}
+use mathlib.Core.Path.{◌≡◌, refl, ap, ◌∙◌}
 use mathlib.Core.Bool.{Bool, true, false, cond}
 use mathlib.Core.List.{List, [], ◌∷◌, ◌++◌}
 use native.Mathlib.Omega.{arith}
 use borrow.Author.Tests.{eqb-true}
 use lib.ListN.{length}
-use lib.Dec.{T, eqb, ltb, ltb→lt, nltb→le}
+use lib.Dec.{eqb, ltb, ltb→lt, nltb→le}
 use Rattle.savefile.specs.Savefile.{next_of, Rec, Walk, stays, after, onward, walk_of, file_walk, counted}
 use Rattle.savefile.specs.declared.Next.{Next}
 use Rattle.savefile.specs.declared.Next.TheVariants.{Record, Fault}

@@ -1,13 +1,13 @@
 -- Laws of the walk over the records.
 use Prim.Native.Nat.{ℕ, zero, suc, ◌+◌, ◌-◌, ◌<◌, ◌≤◌}
-use mathlib.Core.Path.{◌≡◌, refl, sym, ap, ◌∙◌}
+use mathlib.Core.Path.{◌≡◌, refl, ap, ◌∙◌}
 use mathlib.Core.Bool.{Bool, true, false, cond}
 use mathlib.Core.List.{List, []}
 use native.Mathlib.Omega.{arith}
 use borrow.Author.Tests.{lt-ltb, le-ltb}
 use lib.ListN.{length}
-use lib.Dec.{T, eqb, ltb, ltb→lt, nltb→le}
-use Rattle.savefile.specs.Savefile.{number_at, next_of, Rec, Walk, stays, after, onward, walk_of, walked_of}
+use lib.Dec.{eqb, ltb, nltb→le}
+use Rattle.savefile.specs.Savefile.{number_at, next_of, stays, after, walk_of, walked_of}
 use Rattle.savefile.specs.declared.Next.{Next}
 use Rattle.savefile.specs.declared.Next.TheVariants.{Record, Fault}
 use Rattle.savefile.specs.declared.Opened.TheVariants.{Capture, Refused}

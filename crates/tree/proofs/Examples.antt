@@ -1,8 +1,8 @@
 -- The definitions computed: Not (p0 and p1) or p2, and a tower of 255 Nots.
 use Prim.Native.Nat.{ℕ, zero, suc}
 use mathlib.Core.Path.{◌≡◌, refl}
-use mathlib.Core.List.{List, [], ◌∷◌}
-use mathlib.Core.Bool.{Bool, true, false}
+use mathlib.Core.List.{[], ◌∷◌}
+use mathlib.Core.Bool.{true, false}
 use lib.Dec.{eqb, ltb}
 use Rattle.tree.specs.Tree.{Tree, flat, leaves, depth, jumps, holds, trees_of, tree_of}
 use Rattle.tree.specs.Tree.Tree.{leaf, and, or, inv}

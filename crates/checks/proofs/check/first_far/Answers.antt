@@ -2,7 +2,6 @@ use Rattle.filter.proofs.Firsts.{first_all, first_none, first_stop, first_more}
 use Rattle.checks.specs.Check.{far_offset}
 use native.Mathlib.Omega.{arith}
 use mathlib.Core.Path.{sym, ◌∙◌}
-use Prim.Native.Nat.{◌-◌}
 use Rattle.checks.proofs.check.first_far.Goals as goal
 
 pub loop-i-init : goal.loop-i-init

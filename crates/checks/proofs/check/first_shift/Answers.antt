@@ -3,7 +3,6 @@ use Rattle.filter.proofs.Firsts.{first_all, first_none, first_stop, first_more}
 use Rattle.checks.specs.Check.{steps_before, shift_at}
 use native.Mathlib.Omega.{arith}
 use mathlib.Core.Path.{refl, sym, ◌∙◌}
-use Prim.Native.Nat.{◌-◌}
 use Rattle.checks.proofs.check.first_shift.Goals as goal
 
 pub loop-i-init : goal.loop-i-init

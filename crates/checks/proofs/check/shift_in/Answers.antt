@@ -2,7 +2,6 @@ use Rattle.filter.proofs.Firsts.{any_all, any_none, any_stop, any_more}
 use Rattle.checks.specs.Check.{big_shift}
 use native.Mathlib.Omega.{arith}
 use mathlib.Core.Path.{sym, ◌∙◌}
-use Prim.Native.Nat.{◌-◌}
 use Rattle.checks.proofs.check.shift_in.Goals as goal
 
 pub loop-k-init : goal.loop-k-init

@@ -2,7 +2,6 @@ use Rattle.checks.proofs.Checks.{before_more}
 use Rattle.checks.specs.Check.{steps_before}
 use native.Mathlib.Omega.{arith}
 use mathlib.Core.Path.{◌≡◌, refl, ap, ◌∙◌}
-use Prim.Native.Nat.{◌-◌}
 use Rattle.checks.proofs.check.steps_before.Goals as goal
 
 pub loop-i-init : goal.loop-i-init

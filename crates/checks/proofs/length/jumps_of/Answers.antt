@@ -3,7 +3,7 @@ use Rattle.tree.specs.Tokens.{count, is_jump}
 use lib.ListN.{take}
 use native.Mathlib.Omega.{arith}
 use mathlib.Core.Path.{◌≡◌, refl, ap, ◌∙◌}
-use Prim.Native.Nat.{ℕ, ◌-◌}
+use Prim.Native.Nat.{ℕ}
 use Rattle.checks.proofs.length.jumps_of.Goals as goal
 
 pub loop-i-init : goal.loop-i-init

@@ -4,7 +4,6 @@ use Rattle.checks.specs.Check.{steps_before}
 use Rattle.checks.specs.Length.{sizes_of}
 use native.Mathlib.Omega.{arith}
 use mathlib.Core.Path.{◌≡◌, refl, ap, ◌∙◌}
-use Prim.Native.Nat.{◌-◌}
 use Rattle.checks.proofs.length.sizes_of.Goals as goal
 
 pub loop-i-init : goal.loop-i-init

@@ -1,7 +1,6 @@
 use Rattle.checks.proofs.Refusals.{refusal_all, refusal_none, refusal_stop, refusal_more}
 use native.Mathlib.Omega.{arith}
 use mathlib.Core.Path.{sym, ◌∙◌}
-use Prim.Native.Nat.{◌-◌}
 use Rattle.checks.proofs.refusal.steps_refusal.Goals as goal
 
 pub loop-k-init : goal.loop-k-init

@@ -1,7 +1,7 @@
 use Rattle.ebpf.proofs.Runs.{go_next, go_halt, go_spent, values_kept, flags_kept}
 use Rattle.ebpf.specs.Run.{first_state}
 use Rattle.ebpf.specs.Regs.{fresh}
-use Rattle.std.proofs.Common.{◌-◌, sym, refl, ◌∙◌, arith}
+use Rattle.std.proofs.Common.{sym, refl, ◌∙◌, arith}
 use native.Mathlib.Nat.{sub-zero}
 use Rattle.ebpf.proofs.run.drive.Goals as goal
 

@@ -2,7 +2,7 @@ use Rattle.ebpf.proofs.SureRuns.{rest_stops, rest_gives, sure_left, sure_here, s
 use Rattle.ebpf.specs.Step.{regs_after}
 use Rattle.ebpf.specs.Run.{first_state}
 use Rattle.ebpf.specs.Regs.{fresh}
-use Rattle.std.proofs.Common.{◌-◌, sym, refl, ◌∙◌, arith}
+use Rattle.std.proofs.Common.{sym, refl, ◌∙◌, arith}
 use native.Mathlib.Nat.{sub-zero}
 use Rattle.ebpf.proofs.sure.run_sure.Goals as goal
 

@@ -3,7 +3,6 @@ use Rattle.filter.proofs.Wrongs.{place_of}
 use Rattle.filter.specs.Wrong.{record_wrong}
 use native.Mathlib.Omega.{arith}
 use mathlib.Core.Path.{sym, ◌∙◌}
-use Prim.Native.Nat.{◌-◌}
 use Rattle.filter.proofs.wrong.first_wrong_record.Goals as goal
 
 pub loop-j-init : goal.loop-j-init

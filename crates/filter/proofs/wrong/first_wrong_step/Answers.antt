@@ -3,7 +3,6 @@ use Rattle.filter.proofs.Wrongs.{step_right, step_last}
 use Rattle.filter.specs.Wrong.{step_wrong}
 use native.Mathlib.Omega.{arith}
 use mathlib.Core.Path.{sym, ◌∙◌}
-use Prim.Native.Nat.{◌-◌}
 use Rattle.filter.proofs.wrong.first_wrong_step.Goals as goal
 
 pub loop-j-init : goal.loop-j-init

@@ -2,7 +2,6 @@ use Rattle.filter.proofs.Firsts.{first_all, first_none, first_stop, first_more}
 use Rattle.filter.specs.Wrong.{token_wrong}
 use native.Mathlib.Omega.{arith}
 use mathlib.Core.Path.{sym, ◌∙◌}
-use Prim.Native.Nat.{◌-◌}
 use Rattle.filter.proofs.wrong.first_wrong_token.Goals as goal
 
 pub loop-j-init : goal.loop-j-init

@@ -1,6 +1,6 @@
 -- A turn whose registers stand apart, each part taken from it.
 use Rattle.std.proofs.Common.{ap}
-use Rattle.layers.specs.Place.{moved_of, apart_of}
+use Rattle.layers.specs.Place.{apart_of}
 use Rattle.layers.specs.declared.place.Apart.{Apart}
 use Rattle.layers.proofs.place.step_in_place.Goals as goal
 

@@ -1,4 +1,4 @@
-use Rattle.std.proofs.Common.{◌≡◌, ◌<◌, ◌≤◌, ◌∙◌, List, ℕ, length, refl, ap, arith, rules}
+use Rattle.std.proofs.Common.{◌≡◌, ◌<◌, ◌≤◌, ◌∙◌, ℕ, length, refl, ap, arith, rules}
 use Rattle.layers.specs.Records.{plan_of, count_of, filled_to, filled_run, records_of}
 use Rattle.layers.proofs.Runs.{count_fits, length_filled, filled_next}
 use Rattle.layers.proofs.records.fill_records.Goals as goal
@@ -31,6 +31,6 @@ pub returns : goal.returns
 unfolding filled_run
 returns c =
     let planned : c.loop-k.k ≡ count_of (plan_of (length c.args.bytes.now) (length c.args.out.now)) =
-        let all : c.loop-k.k ≡ c.count-n.result = omega arith in
-        all ∙ c.count-n.ensures ∙ ap count_of c.plan-filled.ensures in
+    let all : c.loop-k.k ≡ c.count-n.result = omega arith in
+    all ∙ c.count-n.ensures ∙ ap count_of c.plan-filled.ensures in
     (c.plan-filled.ensures, c.loop-k.invariant.1 ∙ ap (λ (k : ℕ). filled_to c.args.bytes.now c.args.out.now k) planned)

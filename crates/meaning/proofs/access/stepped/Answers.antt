@@ -1,5 +1,5 @@
 use Rattle.meaning.proofs.Loops.{stepped_all, stepped_more, stepped_none}
-use Rattle.std.proofs.Common.{◌-◌, sym, ◌∙◌, arith}
+use Rattle.std.proofs.Common.{sym, ◌∙◌, arith}
 use Rattle.meaning.proofs.access.stepped.Goals as goal
 
 pub loop-k-init : goal.loop-k-init

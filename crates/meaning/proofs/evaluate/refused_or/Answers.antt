@@ -1,7 +1,7 @@
 use Rattle.meaning.proofs.Verdicts.{earned_all, refusal_is, earned_none, earned_here, earned_later}
 use Rattle.checks.specs.Check.{steps_before}
 use Rattle.checks.proofs.Checks.{before_more}
-use Rattle.std.proofs.Common.{◌-◌, refl, ◌∙◌, arith}
+use Rattle.std.proofs.Common.{refl, ◌∙◌, arith}
 use Rattle.meaning.proofs.evaluate.refused_or.Goals as goal
 
 pub loop-i-init : goal.loop-i-init

@@ -1,5 +1,5 @@
 use Rattle.meaning.proofs.Loops.{halves_none, halves_end, halves_differ, halves_more}
-use Rattle.std.proofs.Common.{◌-◌, sym, refl, ◌∙◌, arith}
+use Rattle.std.proofs.Common.{sym, refl, ◌∙◌, arith}
 use Rattle.meaning.proofs.network.halves.Goals as goal
 
 pub loop-i-init : goal.loop-i-init

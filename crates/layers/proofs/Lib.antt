@@ -1,4 +1,3 @@
-pub mod Walking
 pub mod Runs
 pub mod Held
 pub mod Unique

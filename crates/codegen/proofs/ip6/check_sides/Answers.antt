@@ -1,11 +1,13 @@
 use Prim.Native.Nat.{ℕ, ◌+◌, ◌-◌}
 use mathlib.Core.Path.{refl, ap, ◌∙◌}
-use mathlib.Core.Logic.{inl, inr, ⊎_elim}
+use mathlib.Core.Logic.{inl, inr}
 use native.Mathlib.Omega.{arith}
 use Rattle.filter.specs.Ast.{net_offset}
 use Rattle.codegen.specs.Primitives.{check_net6}
 use Rattle.codegen.proofs.Halves.{half_leads, half_next, halves_done, start, end_fits, side_leads, over_fits, side_next, sides_done}
 use Rattle.filter.proofs.Links.{net_low}
+use Rattle.codegen.proofs.ip6.check_sides.Invariants.{part}
+use Rattle.codegen.proofs.ip6.check_sides.Goals.{else-loop-i-test, then-loop-i-test+then-prefix_len-start_bit}
 use Rattle.codegen.proofs.ip6.check_sides.Goals as goal
 
 pub loop-side-init : goal.loop-side-init
@@ -27,9 +29,9 @@ loop-i-init c = let a = c.args in let l = c.loop-side in record {
       made = refl;
       leads = side_leads a.dir (part a.mode a.link a.addr a.prefix) c.side_length-n.result (c.side_length-n.ensures.by_index a.mode a.link a.addr (net_offset a.link + 8)) a.out.now a.work.now a.st l.out l.work l.x l.side l.invariant (rw c.past_sides-last.ensures.0 at c.loop-side-test.true)
           c.side_end-end.result c.side_end-end.ensures (check_net6 a.mode a.link a.addr a.prefix c.net_plus-at.result 8 0) (ap (λ (at : ℕ). check_net6 a.mode a.link a.addr a.prefix at 8 0) c.net_plus-at.ensures) c.side_length-n.ensures.upper_bound;
-      i-in = omega arith;
-      out-len = refl;
-      work-len = refl;
+      i_in = omega arith;
+      out_len = refl;
+      work_len = refl;
     }
 
 pub overflow_mul-start_bit : goal.overflow_mul-start_bit
@@ -53,7 +55,7 @@ pub push_over-x-requires : goal.push_over-x-requires
 push_over-x-requires c = let a = c.args in let l = c.loop-side in let m = c.loop-i in
     over_fits a.dir (part a.mode a.link a.addr a.prefix) c.side_length-n.result (c.side_length-n.ensures.by_index a.mode a.link a.addr (net_offset a.link + 8)) a.out.now a.work.now a.st l.out l.work l.x l.side l.invariant (rw c.past_sides-last.ensures.0 at c.loop-side-test.true)
     c.side_end-end.result c.side_end-end.ensures (check_net6 a.mode a.link a.addr a.prefix c.net_plus-at.result 8 0) (ap (λ (at : ℕ). check_net6 a.mode a.link a.addr a.prefix at 8 0) c.net_plus-at.ensures)
-    m.out m.work m.x (halves_done a.mode a.link a.addr a.prefix c.net_plus-at.result c.side_end-end.result l.out l.work l.x m.out m.work m.x m.i m.invariant (⊎_elim (λ w. inl w.left) (λ w. inr w.1.taken) c.loop-i-test.branch))
+    m.out m.work m.x (halves_done a.mode a.link a.addr a.prefix c.net_plus-at.result c.side_end-end.result l.out l.work l.x m.out m.work m.x m.i m.invariant (elim c.loop-i-test.branch [ else-loop-i-test w ↦ inl w.loop-i-test.false | then-loop-i-test+then-prefix_len-start_bit w ↦ inr w.if-prefix_len-start_bit.true ]))
 
 pub overflow_add-side-in-loop-side : goal.overflow_add-side-in-loop-side
 overflow_add-side-in-loop-side c = omega (arith, c.loop-side-test.true, c.past_sides-last.ensures.1)
@@ -64,7 +66,7 @@ loop-side-smaller c = omega (arith, c.loop-side-test.true)
 pub loop-side-preserved : goal.loop-side-preserved
 loop-side-preserved c = let a = c.args in let l = c.loop-side in let m = c.loop-i in side_next a.dir (part a.mode a.link a.addr a.prefix) c.side_length-n.result (c.side_length-n.ensures.by_index a.mode a.link a.addr (net_offset a.link + 8)) a.out.now a.work.now a.st l.out l.work l.x l.side l.invariant (rw c.past_sides-last.ensures.0 at c.loop-side-test.true)
     c.side_end-end.result c.side_end-end.ensures (check_net6 a.mode a.link a.addr a.prefix c.net_plus-at.result 8 0) (ap (λ (at : ℕ). check_net6 a.mode a.link a.addr a.prefix at 8 0) c.net_plus-at.ensures)
-    m.out m.work m.x (halves_done a.mode a.link a.addr a.prefix c.net_plus-at.result c.side_end-end.result l.out l.work l.x m.out m.work m.x m.i m.invariant (⊎_elim (λ w. inl w.left) (λ w. inr w.1.taken) c.loop-i-test.branch))
+    m.out m.work m.x (halves_done a.mode a.link a.addr a.prefix c.net_plus-at.result c.side_end-end.result l.out l.work l.x m.out m.work m.x m.i m.invariant (elim c.loop-i-test.branch [ else-loop-i-test w ↦ inl w.loop-i-test.false | then-loop-i-test+then-prefix_len-start_bit w ↦ inr w.if-prefix_len-start_bit.true ]))
     c.push_over-x.new.out c.push_over-x.new.work c.push_over-x.result c.push_over-x.ensures (c.push_over-x.auto.out ∙ m.invariant.out_len) (c.push_over-x.auto.work ∙ m.invariant.work_len)
 
 pub returns : goal.returns

@@ -10,7 +10,7 @@ use Rattle.codegen.proofs.Halves.{Inner, Outer}
 use Rattle.codegen.proofs.ip6.check_sides.Given as goal
 
 -- The code of a side.
-abbrev part : ℕ → LinkType → Ipv6Addr → ℕ → ℕ → List Slot
+abbrev pub part : ℕ → LinkType → Ipv6Addr → ℕ → ℕ → List Slot
 part mode link addr prefix side = check_net6 mode link addr prefix (net_offset link + (8 + 16 * side)) 8 0
 
 abbrev pub invariant-loop-i : goal.invariant-loop-i

@@ -2,4 +2,4 @@
 use Rattle.meaning.proofs.network.half_same.Goals as goal
 
 pub returns : goal.returns
-returns c = simp (c.half_under.ensures, c.before.half_of_lem.ensures, c.half_mask.ensures)
+returns c = simp (c.half_under.ensures, c.half_of.ensures, c.half_mask.ensures)

@@ -101,21 +101,39 @@ fn ethertype_at(sheet: &[u8], place: usize) -> u16 {
 }
 
 fn print_ethertype<W: Write>(out: &mut W, et: u16) -> io::Result<()> {
-    writeln!(out, "ethertype 0x{et:04x} cannot be matched on RawIp captures")
+    writeln!(
+        out,
+        "ethertype 0x{et:04x} cannot be matched on RawIp captures"
+    )
 }
 
 // The Rust's message, if the refusal has one; 11 names the ethertype that was refused.
 fn print_message<W: Write>(out: &mut W, number: u8, et: u16) -> io::Result<()> {
     match number {
-        10 => write(out, b"filter expression is too complex: eBPF jump offset overflow\n"),
+        10 => write(
+            out,
+            b"filter expression is too complex: eBPF jump offset overflow\n",
+        ),
         11 => print_ethertype(out, et),
         13 => write(out, b"ether host cannot be used with RawIp link type\n"),
-        14 => write(out, b"ether multicast cannot be used with RawIp link type\n"),
+        14 => write(
+            out,
+            b"ether multicast cannot be used with RawIp link type\n",
+        ),
         15 => write(out, b"mpls cannot be matched on RawIp captures\n"),
-        16 => write(out, b"inbound/outbound direction cannot be expressed in eBPF\n"),
-        17 => write(out, b"expr-vs-expr byte-access comparison is not yet supported for eBPF targets\n"),
+        16 => write(
+            out,
+            b"inbound/outbound direction cannot be expressed in eBPF\n",
+        ),
+        17 => write(
+            out,
+            b"expr-vs-expr byte-access comparison is not yet supported for eBPF targets\n",
+        ),
         18 => write(out, b"division by zero in byte-access expression\n"),
-        19 => write(out, b"modulo (%) is not supported in eBPF byte-access expressions\n"),
+        19 => write(
+            out,
+            b"modulo (%) is not supported in eBPF byte-access expressions\n",
+        ),
         _ => Ok(()),
     }
 }

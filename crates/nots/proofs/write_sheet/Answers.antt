@@ -6,10 +6,10 @@ use lib.ListN.{length-set}
 use Rattle.nots.proofs.write_sheet.Goals as goal
 
 pub bounds-output-front-2 : goal.bounds-output-front-2
-bounds-output-front-2 c = simp length-set (omega (arith, c.copy_front.auto.1.1.0, c.requires.size_in_bounds))
+bounds-output-front-2 c = simp length-set (omega (arith, c.copy_front.auto.output, c.requires.size_in_bounds))
 
 pub wanted-requires : goal.wanted-requires
-wanted-requires c = record { begins = c.requires.begins.0; at_in_bounds = simp length-set (omega (arith, c.copy_front.auto.1.1.0, c.requires.begins.1, c.requires.size_in_bounds)) }
+wanted-requires c = record { begins = c.requires.begins.0; at_in_bounds = simp length-set (omega (arith, c.copy_front.auto.output, c.requires.begins.1, c.requires.size_in_bounds)) }
 
 pub returns : goal.returns
 returns c = let a = c.args in

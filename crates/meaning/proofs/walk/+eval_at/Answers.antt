@@ -15,7 +15,7 @@ pub overflow_add-after : goal.overflow_add-after
 overflow_add-after t c = omega arith
 
 pub leaf_at-requires : goal.leaf_at-requires
-leaf_at-requires t c = c.requires.1
+leaf_at-requires t c = c.requires
 
 pub returns-then-t-eq0 : goal.returns-then-t-eq0
 returns-then-t-eq0 t c = c.leaf_at.ensures ∙ sym (walk_leaf _ _ _ _ _ _ _ c.if-depth-eq0.false c.if-tokens-at.false c.if-t-eq0.true)
@@ -24,7 +24,7 @@ pub overflow_sub-depth : goal.overflow_sub-depth
 overflow_sub-depth t c = omega arith
 
 pub eval_at-requires : goal.eval_at-requires
-eval_at-requires t c = (omega arith, c.requires.1)
+eval_at-requires t c = (omega arith, c.requires)
 
 pub denied-requires : goal.denied-requires
 denied-requires t c = tt
@@ -40,7 +40,7 @@ overflow_sub-depth-in-Done t c = omega arith
 
 pub eval_at-second-requires : goal.eval_at-second-requires
 eval_at-second-requires t c =
-    (omega arith, (next_step _ _ _ _ _ _ _ (sym c.eval_at.ensures ∙ c.in-Done.is), c.requires.1.1))
+    (omega arith, (next_step _ _ _ _ _ _ _ (sym c.eval_at.ensures ∙ c.in-Done.is), c.requires.1))
 
 pub join-requires : goal.join-requires
 join-requires t c = tt

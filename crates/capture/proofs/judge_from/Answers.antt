@@ -11,10 +11,10 @@ pub overflow_mul-m : goal.overflow_mul-m
 overflow_mul-m c = let a = c.args in let m = sym c.compile.ensures.value ∙ c.in-Program.is in let b : Bytes a.sheet.now = λ i. omega (arith, c.shared_slice_known-2-1.given i) in let h = room a.sheet.now a.link a.mode (length a.work.now) _ a.output.now b m in omega (arith, h)
 
 pub slice_bounds-judge_records-end : goal.slice_bounds-judge_records-end
-slice_bounds-judge_records-end c = let a = c.args in let m = sym c.compile.ensures.value ∙ c.in-Program.is in let b : Bytes a.sheet.now = λ i. omega (arith, c.shared_slice_known-2-1.given i) in let h = room a.sheet.now a.link a.mode (length a.work.now) _ a.output.now b m in omega (arith, h, c.compile.auto.1.1.1.0)
+slice_bounds-judge_records-end c = let a = c.args in let m = sym c.compile.ensures.value ∙ c.in-Program.is in let b : Bytes a.sheet.now = λ i. omega (arith, c.shared_slice_known-2-1.given i) in let h = room a.sheet.now a.link a.mode (length a.work.now) _ a.output.now b m in omega (arith, h, c.compile.auto.output)
 
 pub slice_bounds-judge_records-end-in-Program : goal.slice_bounds-judge_records-end-in-Program
-slice_bounds-judge_records-end-in-Program c = let a = c.args in let m = sym c.compile.ensures.value ∙ c.in-Program.is in let b : Bytes a.sheet.now = λ i. omega (arith, c.shared_slice_known-2-1.given i) in let h = room a.sheet.now a.link a.mode (length a.work.now) _ a.output.now b m in sym (length-take-le _ _ (omega (arith, h, c.compile.auto.1.1.1.0)))
+slice_bounds-judge_records-end-in-Program c = let a = c.args in let m = sym c.compile.ensures.value ∙ c.in-Program.is in let b : Bytes a.sheet.now = λ i. omega (arith, c.shared_slice_known-2-1.given i) in let h = room a.sheet.now a.link a.mode (length a.work.now) _ a.output.now b m in sym (length-take-le _ _ (omega (arith, h, c.compile.auto.output)))
 
 pub judge_records-requires : goal.judge_records-requires
 judge_records-requires c = let a = c.args in let m = sym c.compile.ensures.value ∙ c.in-Program.is in let b : Bytes a.sheet.now = λ i. omega (arith, c.shared_slice_known-2-1.given i) in rw (c.compile.ensures.output_after, written a.sheet.now a.link a.mode (length a.work.now) _ a.output.now b m) (exits_always a.sheet.now a.link a.mode (length a.work.now) _ a.output.now b m)

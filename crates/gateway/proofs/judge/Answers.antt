@@ -26,14 +26,14 @@ slice_bounds-run-end c =
     let a = c.args in
     let m = sym c.compile.ensures.value ∙ c.in-Program.is in
     let h = room a.sheet.now a.link a.output.now (length a.work.now) _ (λ i. omega (arith, c.shared_slice_known-1.given i)) m in
-    omega (arith, h, c.compile.auto.1.1.1.0)
+    omega (arith, h, c.compile.auto.output)
 
 pub slice_bounds-run-end-in-Program : goal.slice_bounds-run-end-in-Program
 slice_bounds-run-end-in-Program c =
     let a = c.args in
     let m = sym c.compile.ensures.value ∙ c.in-Program.is in
     let h = room a.sheet.now a.link a.output.now (length a.work.now) _ (λ i. omega (arith, c.shared_slice_known-1.given i)) m in
-    sym (length-take-le _ _ (omega (arith, h, c.compile.auto.1.1.1.0)))
+    sym (length-take-le _ _ (omega (arith, h, c.compile.auto.output)))
 
 pub returns-in-Refused : goal.returns-in-Refused
 unfolding judged_of

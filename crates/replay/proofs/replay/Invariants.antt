@@ -1,6 +1,4 @@
 -- Each turn has its number; nothing is asked of the buffers.
-use mathlib.Core.Path.{◌≡◌}
-use lib.ListN.{length}
 use Prim.Native.Nat.{◌-◌}
 use Rattle.replay.proofs.replay.Given as goal
 

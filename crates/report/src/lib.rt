@@ -138,7 +138,7 @@ fn print_message<W: Write>(out: &mut W, number: u8, et: u16) -> io::Result<()> {
     }
 }
 
-// `compile`, and its answer printed to `out`. The program and the work are the same where a write fails.
+// `compile`, and its answer printed to `out`. What `output` and `work` hold does not depend on whether a write fails.
 pub fn report<W: Write>(
     out: &mut W,
     sheet: &[u8],

@@ -15,7 +15,7 @@ use Rattle.checks.specs.declared.measure.Measured.TheVariants.{Refused, Length}
 use Rattle.checks.proofs.Bounds.{measured_length}
 use Rattle.patches.specs.Listing.{compile_l}
 use Rattle.generator.specs.Template.{template}
-use Rattle.generator.specs.Compile.{Outcome, outcome, outcome_of}
+use Rattle.generator.specs.Compile.{outcome, outcome_of}
 use Rattle.generator.specs.Compile.Outcome.{early, late}
 use Rattle.bromaveluth.specs.Boundary.{asked_of}
 

@@ -1,12 +1,11 @@
 -- From the compiled program and the file to the answer.
-use Prim.Native.Nat.{ℕ, ◌+◌, ◌*◌, ◌/◌, ◌<◌, ◌≤◌, ◌^◌}
-use mathlib.Core.Path.{◌≡◌, refl, sym, ap, ◌∙◌}
+use Prim.Native.Nat.{ℕ, ◌*◌, ◌/◌, ◌≤◌}
+use mathlib.Core.Path.{◌≡◌, refl}
 use mathlib.Core.Bool.{Bool}
 use mathlib.Core.List.{List, ◌++◌}
 use native.Mathlib.Omega.{arith}
-use lib.ListN.{length, get_or, take, drop}
+use lib.ListN.{length, take, drop}
 use lib.Seq.{take-append_seam}
-use Rattle.ebpf.specs.Run.{run_of}
 use Rattle.program.specs.Program.{code_of}
 use Rattle.program.specs.Ends.{Frame}
 use Rattle.generator.specs.Compile.{outcome_of, answer_of, output_after}

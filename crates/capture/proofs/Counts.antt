@@ -1,7 +1,7 @@
 -- Laws of counting: one record more, the frame of a record, a walk from a place on.
-use Prim.Native.Nat.{ℕ, zero, suc, ◌+◌, ◌-◌, ◌*◌, ◌/◌, ◌<◌, ◌≤◌, ◌^◌}
-use mathlib.Core.Path.{◌≡◌, refl, sym, ap, ◌∙◌}
-use mathlib.Core.Bool.{Bool, true, false, not, cond, ◌&&◌}
+use Prim.Native.Nat.{ℕ, zero, suc, ◌+◌, ◌-◌, ◌/◌, ◌<◌, ◌≤◌}
+use mathlib.Core.Path.{◌≡◌, refl}
+use mathlib.Core.Bool.{Bool, true, false, cond}
 use mathlib.Core.List.{List, [], ◌∷◌}
 use native.Mathlib.Omega.{arith}
 use borrow.Author.Tests.{lt-ltb, le-ltb, eq-eqb, ne_eqb}
@@ -15,7 +15,7 @@ use Rattle.savefile.proofs.Walks.{faulty, walk_next, walk_fault, walk_end, walk_
 use Rattle.capture.specs.Capture.{Always, rec_at, accepts, is_passed, is_dropped, tallied, added, shown_of, judged_walk}
 use Rattle.capture.specs.declared.Tally.{Tally}
 use Rattle.capture.specs.declared.Captured.{Captured}
-use Rattle.capture.specs.declared.Captured.TheVariants.{Refused, Counted}
+use Rattle.capture.specs.declared.Captured.TheVariants.{Refused}
 
 take_byte : (n : ℕ) (s : List ℕ) (i : ℕ) → ((p : ℕ) → get_or s p 0 < 256) → get_or (take n s) i 0 < 256
 take_byte zero s i byte = omega arith

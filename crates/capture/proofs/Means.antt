@@ -1,6 +1,6 @@
 -- THEOREM, A1 by the meaning: a judged frame has passed exactly when the expression holds, and every record walked is in one class.
 use Prim.Native.Nat.{ℕ, zero, suc, ◌+◌, ◌/◌, ◌≤◌}
-use mathlib.Core.Path.{◌≡◌, refl, sym, ap, ◌∙◌}
+use mathlib.Core.Path.{◌≡◌, refl, sym, ◌∙◌}
 use mathlib.Core.Bool.{Bool, true, false, not, cond, ◌&&◌}
 use mathlib.Core.List.{List, [], ◌∷◌}
 use native.Mathlib.Omega.{arith}
@@ -14,7 +14,7 @@ use Rattle.generator.specs.declared.Compiled.{Compiled}
 use Rattle.generator.specs.declared.Compiled.TheVariants as compiled
 use Rattle.sound.specs.Demand.{Bytes, sheet_holds, SmallSheet}
 use Rattle.sound.proofs.Demand3.{passes_exactly}
-use Rattle.savefile.specs.Savefile.{Rec, Walk, stays, is_cut, frame_of, counted, next_of, onward, walk_of, file_walk, opened_of}
+use Rattle.savefile.specs.Savefile.{Rec, stays, is_cut, frame_of, counted, next_of, onward, walk_of, file_walk, opened_of}
 use Rattle.savefile.specs.declared.Next.{Next}
 use Rattle.savefile.specs.declared.Next.TheVariants.{Record, Fault}
 use Rattle.savefile.specs.declared.Opened.TheVariants as opened
@@ -23,7 +23,7 @@ use Rattle.savefile.proofs.Parts.{through}
 use Rattle.savefile.proofs.Headers.{header_long, opened_header}
 use Rattle.capture.specs.Capture.{rec_at, program_of, accepts, is_passed, is_dropped, tallied, shown_of, judged_walk, unless_refused, judged_from, captured_of, holds_on, fails_on}
 use Rattle.capture.specs.declared.Captured.{Captured}
-use Rattle.capture.specs.declared.Captured.TheVariants.{Refused, Counted}
+use Rattle.capture.specs.declared.Captured.TheVariants.{Counted}
 use Rattle.capture.proofs.Counts.{part_byte}
 use Rattle.capture.proofs.Captures.{written, sized}
 

@@ -1,6 +1,6 @@
 -- THEOREM: parts of a capture compose to the whole.
-use Prim.Native.Nat.{ℕ, ◌+◌, ◌≤◌}
-use mathlib.Core.Path.{◌≡◌, refl, sym, ap, ◌∙◌}
+use Prim.Native.Nat.{ℕ, ◌+◌}
+use mathlib.Core.Path.{◌≡◌, refl, ap, ◌∙◌}
 use mathlib.Core.Bool.{Bool, true, false, cond}
 use mathlib.Core.List.{List, ◌++◌}
 use native.Mathlib.Omega.{arith}
@@ -9,7 +9,7 @@ use lib.Dec.{eqb}
 use Rattle.generator.specs.Compile.{outcome_of, answer_of}
 use Rattle.generator.specs.declared.Compiled.{Compiled}
 use Rattle.generator.specs.declared.Compiled.TheVariants as compiled
-use Rattle.savefile.specs.Savefile.{Rec, Walk, is_cut, walk_of, file_walk, walked_of, header_of, whole_of, opened_of}
+use Rattle.savefile.specs.Savefile.{Rec, Walk, is_cut, walk_of, walked_of, header_of, whole_of, opened_of}
 use Rattle.savefile.specs.declared.Opened.{Opened}
 use Rattle.savefile.specs.declared.Opened.TheVariants as opened
 use Rattle.savefile.proofs.Parts.{walk_parts, then, behind, counted_append, fault_is}

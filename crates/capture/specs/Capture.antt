@@ -1,5 +1,5 @@
 -- One filter over a capture: its classes of records, counted over the file itself (document 02, A1).
-use Rattle.std.specs.Prelude.{ℕ, ◌+◌, ◌/◌, ◌<◌, ◌^◌, ◌≡◌, Bool, true, false, not, cond, ◌&&◌, List, [], ◌∷◌, length, get_or, eqb}
+use Rattle.std.specs.Prelude.{ℕ, ◌+◌, ◌/◌, ◌<◌, ◌^◌, ◌≡◌, Bool, not, cond, ◌&&◌, List, [], length, get_or, eqb}
 use Rattle.ebpf.specs.Run.{run_of}
 use Rattle.program.specs.Program.{code_of}
 use Rattle.patches.specs.Listing.CompL.{stopped_l, made_l}

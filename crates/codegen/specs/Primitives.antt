@@ -1,11 +1,10 @@
 -- The code of each primitive, function by function of ebpf_codegen.rs: host, net, port, MAC, tags, length, byte access.
-use Rattle.std.specs.Prelude.{ℕ, zero, suc, ◌+◌, ◌-◌, ◌*◌, ◌/◌, ◌%◌, ◌^◌, List, [], ◌∷◌, ◌++◌, cond, length, eqb, leb, ltb}
+use Rattle.std.specs.Prelude.{ℕ, zero, suc, ◌+◌, ◌-◌, ◌*◌, ◌/◌, ◌%◌, ◌^◌, List, [], ◌∷◌, ◌++◌, cond, eqb, leb, ltb}
 use Rattle.std.specs.Int.Bits.{bit_and}
 use Rattle.ebpf.specs.Opcode.{ADD, SUB, AND, RSH, MOV, JEQ, JNE, JGT, JLT, JSET}
 use Rattle.ebpf.specs.Insn.{alu64_reg, alu64_imm, alu32_imm, jump_always}
 use Rattle.patches.specs.Code.{Slot}
 use Rattle.patches.specs.Code.Slot.{fixed, success, failure}
-use Rattle.checks.specs.Refusal.{refusal}
 use Rattle.pieces.specs.Fragments.{past, sides, guard, load, end_of, emit_load, emit_steps, transport, fails, skips, succeeds, check, emit_cmp}
 use Rattle.pieces.specs.Fragments.{emit_ethertype, emit_ip4_l4, emit_ip6_l4, emit_dual_l4}
 use Rattle.filter.specs.Prefix.{prefix_mask}
@@ -25,8 +24,6 @@ use Rattle.filter.specs.declared.ast.MaybeLabel.{MaybeLabel}
 use Rattle.filter.specs.declared.ast.MaybeLabel.TheVariants.{NoLabel, SomeLabel}
 use Rattle.filter.specs.declared.ast.Ipv6Addr.{Ipv6Addr}
 use Rattle.filter.specs.declared.ast.IpNet.{IpNet}
-use Rattle.filter.specs.declared.ast.Ipv6Net.{Ipv6Net}
-use Rattle.filter.specs.declared.ast.AccessSize.{AccessSize}
 use Rattle.filter.specs.declared.ast.AccessSize.TheVariants.{Byte, Half, Word}
 use Rattle.filter.specs.declared.ast.CmpOp.{CmpOp}
 use Rattle.filter.specs.declared.ast.Layer as layers

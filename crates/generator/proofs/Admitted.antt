@@ -14,7 +14,6 @@ use Rattle.filter.specs.Sheet.{steps_part, prims_part, tokens_part}
 use Rattle.filter.specs.declared.ast.LinkType.{LinkType}
 use Rattle.filter.specs.declared.ast.Primitive.{Primitive}
 use Rattle.filter.proofs.Sheets.{sized}
-use Rattle.tree.specs.Tokens.{count}
 use Rattle.tree.specs.Shape.{shape_of}
 use Rattle.checks.specs.Check.{steps_before, check_of}
 use Rattle.checks.specs.Length as count

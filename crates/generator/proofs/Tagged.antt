@@ -1,8 +1,7 @@
 -- THEOREM, document 02's A10: on a link without an ethertype a VLAN or a PPPoE session earns 11, with or without a number, so that no offset of its code is ever asked for.
 use Prim.Native.Nat.{ℕ, ◌*◌}
-use mathlib.Core.Path.{◌≡◌, refl, ap, ◌∙◌}
+use mathlib.Core.Path.{◌≡◌, refl}
 use mathlib.Core.List.{List}
-use native.Mathlib.Omega.{arith}
 use Rattle.filter.specs.Ast.{ether_proto_offset}
 use Rattle.filter.specs.Record.{decode_at}
 use Rattle.filter.specs.declared.ast.LinkType.{LinkType}

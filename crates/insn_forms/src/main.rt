@@ -2,10 +2,11 @@
 // fields and the bytes of each are compared.
 #![tactic(auto)]
 
-ghost use Rattle.std.specs.Prelude.{◌≤◌};
+ghost use Rattle.std.specs.Prelude.{◌≤◌, length, IfOk};
 
 use ebpf::insn::{Fetched, Insn};
-use libc::{STDIN_FILENO, STDOUT_FILENO};
+use std::io;
+use std::io::{Read, Write};
 
 // The instruction on line `k` of tests/insn/forms.s.
 fn form(k: usize) -> Insn {
@@ -82,59 +83,73 @@ fn wide(b: u8) -> u64 {
     b as u64
 }
 
-fn print_bytes(bytes: &[u8]) {
+fn print_bytes<W: Write>(out: &mut W, bytes: &[u8]) -> io::Result<()> {
     let mut i = 0;
     while i < bytes.len() {
-        io::print_hex(STDOUT_FILENO, wide(bytes[i]), 2);
+        let b = wide(bytes[i]);
+        write!(out, "{b:02x}")?;
         i += 1;
     }
+    Ok(())
 }
 
 // One line for instruction `k`: its number, their bytes, our bytes, and whether they are the same.
-fn report(k: usize, theirs: &[u8]) -> usize
-    ensures { result ≤ 1 }
+fn report<W: Write>(out: &mut W, k: usize, theirs: &[u8]) -> io::Result<usize>
+    ensures { IfOk result (λ n. n ≤ 1) }
 {
     let ours = form(k);
     let bytes = ours.to_le_bytes();
-    io::print_decimal(STDOUT_FILENO, k as u64);
-    io::write_all(STDOUT_FILENO, b" ");
-    print_bytes(theirs);
-    io::write_all(STDOUT_FILENO, b" ");
-    print_bytes(&bytes);
+    write!(out, "{k} ")?;
+    print_bytes(out, theirs)?;
+    write!(out, " ")?;
+    print_bytes(out, &bytes)?;
     if !fields_agree(ours, theirs) {
-        io::write_all(STDOUT_FILENO, b" other fields\n");
-        return 0;
+        writeln!(out, " other fields")?;
+        return Ok(0);
     }
     if !check::same(&bytes, theirs) {
-        io::write_all(STDOUT_FILENO, b" other bytes\n");
-        return 0;
+        writeln!(out, " other bytes")?;
+        return Ok(0);
     }
-    io::write_all(STDOUT_FILENO, b" same\n");
-    1
+    writeln!(out, " same")?;
+    Ok(1)
 }
 
-fn report_all(bytes: &[u8]) {
+fn report_all<W: Write>(out: &mut W, bytes: &[u8]) -> io::Result<()> {
     let n = bytes.len() / 8;
     let mut same: usize = 0;
     let mut k = 0;
     while k < n {
         let at = k * 8;
         let end = at + 8;
-        same += report(k, &bytes[at..end]);
+        same += report(out, k, &bytes[at..end])?;
         k += 1;
     }
-    io::print_decimal(STDOUT_FILENO, n as u64);
-    io::write_all(STDOUT_FILENO, b" instructions, ");
-    io::print_decimal(STDOUT_FILENO, same as u64);
-    io::write_all(STDOUT_FILENO, b" the same\n");
+    writeln!(out, "{n} instructions, {same} the same")
 }
 
-fn main() {
-    let mut buf = io::buffer();
-    let n = io::read_full(STDIN_FILENO, &mut buf);
-    if n < 8 {
-        io::write_all(STDOUT_FILENO, b"usage: insn_forms < tests/insn/forms.bin\n");
-        return;
+// Reads until `buf` is full or the input ends; the answer is how many bytes were put at its start.
+fn read_full<R: Read>(from: &mut R, buf: &mut [u8]) -> io::Result<usize>
+    ensures { IfOk result (λ n. n ≤ length buf.new) }
+{
+    let mut done = 0;
+    while done < buf.len() {
+        let n = from.read(&mut buf[done..])?;
+        if n == 0 {
+            break;
+        }
+        done += n;
     }
-    report_all(&buf[..n]);
+    Ok(done)
+}
+
+fn main(rt: HostRuntime) -> io::Result<()> {
+    let mut from = rt.stdin();
+    let mut out = rt.stdout();
+    let mut buf = [0u8; 4096];
+    let n = read_full(&mut from, &mut buf)?;
+    if n < 8 {
+        return writeln!(out, "usage: insn_forms < tests/insn/forms.bin");
+    }
+    report_all(&mut out, &buf[..n])
 }

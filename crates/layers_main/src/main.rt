@@ -9,6 +9,8 @@ use ebpf::regs::Regs;
 use ebpf::step;
 use ebpf::step::{State, Status, Turn};
 use layers::{place, records};
+use std::io;
+use std::io::Write;
 
 // Where the frame lies.
 const START: u64 = 4096;
@@ -127,72 +129,60 @@ fn same_fetched(a: Fetched, b: Fetched) -> bool
     }
 }
 
-fn print(text: &[u8]) {
-    io::write_all(1, text);
+fn print<W: Write>(out: &mut W, text: &[u8]) -> io::Result<()> {
+    out.write_all(text)
 }
 
 // A register's number and value, if it has been written.
-fn print_register(i: usize, value: u64, written: bool) {
+fn print_register<W: Write>(out: &mut W, i: usize, value: u64, written: bool) -> io::Result<()> {
     if written {
-        print(b" r");
-        io::print_decimal(1, i as u64);
-        print(b"=");
-        io::print_decimal(1, value);
+        write!(out, " r{i}={value}")?;
     }
+    Ok(())
 }
 
-fn print_status(s: Status) {
+fn print_status<W: Write>(out: &mut W, s: Status) -> io::Result<()> {
     match s {
-        Status::Going => {
-            print(b" going");
-        }
-        Status::Halted { stop, r0 } => {
-            print(b" stop ");
-            io::print_decimal(1, stop as u64);
-            print(b" with ");
-            io::print_decimal(1, r0);
-        }
+        Status::Going => print(out, b" going"),
+        Status::Halted { stop, r0 } => write!(out, " stop {stop} with {r0}"),
     }
 }
 
-fn print_turn(t: Turn) {
+fn print_turn<W: Write>(out: &mut W, t: Turn) -> io::Result<()> {
     let s = t.state;
     let regs = s.regs;
     let values = regs.values;
     let written = regs.written;
     let status = t.status;
-    print(b"pc ");
-    io::print_decimal(1, s.pc);
-    print_status(status);
+    let pc = s.pc;
+    write!(out, "pc {pc}")?;
+    print_status(out, status)?;
     let mut i = 0;
     while i < 7 {
-        print_register(i, values[i], written[i]);
+        print_register(out, i, values[i], written[i])?;
         i += 1;
     }
+    Ok(())
 }
 
-fn print_fetched(f: Fetched) {
+fn print_fetched<W: Write>(out: &mut W, f: Fetched) -> io::Result<()> {
     match f {
         Fetched::Here(i) => {
-            io::print_hex(1, i.code as u64, 2);
-            print(b" ");
-            io::print_hex(1, i.regs as u64, 2);
-            print(b" ");
-            io::print_hex(1, i.off as u64, 4);
-            print(b" ");
-            io::print_hex(1, i.imm as u64, 8);
+            let code = i.code;
+            let regs = i.regs;
+            let off = i.off;
+            let imm = i.imm;
+            write!(out, "{code:02x} {regs:02x} {off:04x} {imm:08x}")
         }
-        Fetched::Nothing => {
-            print(b"nothing");
-        }
+        Fetched::Nothing => print(out, b"nothing"),
     }
 }
 
-fn print_verdict(same: bool) {
+fn print_verdict<W: Write>(out: &mut W, same: bool) -> io::Result<()> {
     if same {
-        print(b" | same\n");
+        print(out, b" | same\n")
     } else {
-        print(b" | DIFFERENT\n");
+        print(out, b" | DIFFERENT\n")
     }
 }
 
@@ -203,13 +193,11 @@ fn counted(t: Tally, same: bool) -> Tally {
     }
 }
 
-fn print_tally(what: &[u8], t: Tally) {
-    print(what);
-    print(b": ");
-    io::print_decimal(1, t.compared);
-    print(b" compared, ");
-    io::print_decimal(1, t.same);
-    print(b" the same\n");
+fn print_tally<W: Write>(out: &mut W, what: &[u8], t: Tally) -> io::Result<()> {
+    let compared = t.compared;
+    let same = t.same;
+    print(out, what)?;
+    writeln!(out, ": {compared} compared, {same} the same")
 }
 
 fn is_going(s: Status) -> bool {
@@ -219,28 +207,41 @@ fn is_going(s: Status) -> bool {
     }
 }
 
-fn print_step(pc: u64, by_value: Turn, in_place: Turn, same: bool) {
-    print(b"step at pc ");
-    io::print_decimal(1, pc);
-    print(b": by value ");
-    print_turn(by_value);
-    print(b" | in place ");
-    print_turn(in_place);
-    print_verdict(same);
+fn print_step<W: Write>(
+    out: &mut W,
+    pc: u64,
+    by_value: Turn,
+    in_place: Turn,
+    same: bool,
+) -> io::Result<()> {
+    write!(out, "step at pc {pc}: by value ")?;
+    print_turn(out, by_value)?;
+    print(out, b" | in place ")?;
+    print_turn(out, in_place)?;
+    print_verdict(out, same)
 }
 
-fn print_record(k: usize, fetched: Fetched, found: Fetched, same: bool) {
-    print(b"record ");
-    io::print_decimal(1, k as u64);
-    print(b": by fetch ");
-    print_fetched(fetched);
-    print(b" | in the run ");
-    print_fetched(found);
-    print_verdict(same);
+fn print_record<W: Write>(
+    out: &mut W,
+    k: usize,
+    fetched: Fetched,
+    found: Fetched,
+    same: bool,
+) -> io::Result<()> {
+    write!(out, "record {k}: by fetch ")?;
+    print_fetched(out, fetched)?;
+    print(out, b" | in the run ")?;
+    print_fetched(out, found)?;
+    print_verdict(out, same)
 }
 
 // Each step from the first to the exit, of which twelve instructions with no jump back take at most twelve.
-fn compare_steps(program: &[u8], frame: &[u8], tally: Tally) -> Tally {
+fn compare_steps<W: Write>(
+    out: &mut W,
+    program: &[u8],
+    frame: &[u8],
+    tally: Tally,
+) -> io::Result<Tally> {
     let mut t = tally;
     let mut s = State {
         regs: Regs {
@@ -254,22 +255,22 @@ fn compare_steps(program: &[u8], frame: &[u8], tally: Tally) -> Tally {
         let by_value = step::step(program, frame, START, s);
         let in_place = place::step_by_place(program, frame, START, s);
         let same = same_turn(by_value, in_place);
-        print_step(s.pc, by_value, in_place, same);
+        print_step(out, s.pc, by_value, in_place, same)?;
         check::expect(same);
         t = counted(t, same);
         let status = in_place.status;
         if is_going(status) {
             s = in_place.state;
         } else {
-            return t;
+            return Ok(t);
         }
         n += 1;
     }
-    t
+    Ok(t)
 }
 
 // Each record of the twelve.
-fn compare_records(program: &[u8], tally: Tally) -> Tally
+fn compare_records<W: Write>(out: &mut W, program: &[u8], tally: Tally) -> io::Result<Tally>
     requires { 96 ≡ length program.now }
 {
     let mut t = tally;
@@ -278,25 +279,24 @@ fn compare_records(program: &[u8], tally: Tally) -> Tally
         let fetched = Insn::fetch(program, k * 8);
         let found = records::record_by_run(program, k);
         let same = same_fetched(fetched, found);
-        print_record(k, fetched, found, same);
+        print_record(out, k, fetched, found, same)?;
         check::expect(same);
         t = counted(t, same);
         k += 1;
     }
-    t
+    Ok(t)
 }
 
 // Record `k` of the run after the bytes were put into it, where the run alone has something to show.
-fn show_record(what: &[u8], bytes: &[u8], k: usize) {
-    print(what);
-    print(b", record ");
-    io::print_decimal(1, k as u64);
-    print(b" in the run: ");
-    print_fetched(records::record_by_run(bytes, k));
-    print(b"\n");
+fn show_record<W: Write>(out: &mut W, what: &[u8], bytes: &[u8], k: usize) -> io::Result<()> {
+    print(out, what)?;
+    write!(out, ", record {k} in the run: ")?;
+    print_fetched(out, records::record_by_run(bytes, k))?;
+    print(out, b"\n")
 }
 
-fn main() {
+fn main(rt: HostRuntime) -> io::Result<()> {
+    let mut out = rt.stdout();
     let k2 = *b"\x61\x12\x00\x00\x00\x00\x00\x00\
         \x61\x13\x04\x00\x00\x00\x00\x00\
         \xbf\x25\x00\x00\x00\x00\x00\x00\
@@ -315,19 +315,19 @@ fn main() {
         compared: 0,
         same: 0,
     };
-    print(b"ethertype 0800\n");
-    let of_ip = compare_steps(&k2, &ip, none);
-    print(b"ethertype 0806\n");
-    let steps = compare_steps(&k2, &arp, of_ip);
-    print_tally(b"steps", steps);
-    let found = compare_records(&k2, none);
-    print_tally(b"records", found);
-    show_record(b"past the program", &k2, 12);
-    show_record(b"past the program", &k2, 15);
-    show_record(b"past the run", &k2, 16);
-    show_record(b"no whole records", &k2[..95], 0);
+    print(&mut out, b"ethertype 0800\n")?;
+    let of_ip = compare_steps(&mut out, &k2, &ip, none)?;
+    print(&mut out, b"ethertype 0806\n")?;
+    let steps = compare_steps(&mut out, &k2, &arp, of_ip)?;
+    print_tally(&mut out, b"steps", steps)?;
+    let found = compare_records(&mut out, &k2, none)?;
+    print_tally(&mut out, b"records", found)?;
+    show_record(&mut out, b"past the program", &k2, 12)?;
+    show_record(&mut out, b"past the program", &k2, 15)?;
+    show_record(&mut out, b"past the run", &k2, 16)?;
+    show_record(&mut out, b"no whole records", &k2[..95], 0)?;
     let sixteen = [0x95u8; 128];
-    show_record(b"as many as the run has", &sixteen, 15);
+    show_record(&mut out, b"as many as the run has", &sixteen, 15)?;
     let seventeen = [0x95u8; 136];
-    show_record(b"more than the run has", &seventeen, 0);
+    show_record(&mut out, b"more than the run has", &seventeen, 0)
 }

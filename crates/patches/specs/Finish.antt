@@ -1,5 +1,5 @@
 -- What the Rust does when an operand is done: the operators that waited for it, the innermost first.
-use Rattle.std.specs.Prelude.{ℕ, zero, suc, ◌+◌, ◌≤◌, ◌≡◌, List, [], ◌∷◌, ◌++◌, cond, eqb}
+use Rattle.std.specs.Prelude.{ℕ, suc, ◌+◌, ◌≤◌, ◌≡◌, List, [], ◌∷◌, ◌++◌, cond, eqb}
 use Rattle.ebpf.specs.Insn.{jump_always}
 use Rattle.ebpf.specs.declared.insn.Insn.{Insn}
 use Rattle.patches.specs.declared.Patches.{Patches}

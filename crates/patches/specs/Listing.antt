@@ -1,6 +1,5 @@
 -- The same over a list of instructions, as the Rust has it: what the bytes stand for.
 use Rattle.std.specs.Prelude.{ℕ, zero, suc, ◌+◌, ◌-◌, ◌≡◌, List, [], ◌∷◌, ◌++◌, cond, ltb, length}
-use Rattle.ebpf.specs.Insn.{to_le_bytes}
 use Rattle.ebpf.specs.declared.insn.Insn.{Insn}
 use Rattle.program.specs.Program.{code_of}
 use Rattle.tree.specs.Tree.{Tree}

@@ -1,5 +1,5 @@
 -- What the numbers of `work` stand for: the first l are links of chains, behind them three numbers for each pending operator.
-use Rattle.std.specs.Prelude.{ℕ, zero, suc, ◌+◌, ◌*◌, ◌<◌, ◌≤◌, ◌≡◌, List, [], ◌∷◌, cond, eqb, get_or, length}
+use Rattle.std.specs.Prelude.{ℕ, suc, ◌+◌, ◌*◌, ◌<◌, ◌≤◌, ◌≡◌, List, [], ◌∷◌, cond, eqb, get_or, length}
 use Rattle.patches.specs.declared.PatchList.{PatchList}
 use Rattle.patches.specs.declared.Patches.{Patches}
 use Rattle.patches.specs.Chain.{Descends, chain_of}

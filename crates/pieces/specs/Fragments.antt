@@ -1,10 +1,8 @@
 -- The pieces of code that primitives are made of, function by function of ebpf_codegen.rs: loads with guard, single checks, ethertype, dual-stack.
 -- A jump that the Rust resolves inside a primitive has its distance written here; one that it hands on is open.
-use Rattle.std.specs.Prelude.{ℕ, zero, suc, ◌+◌, ◌-◌, ◌*◌, ◌/◌, ◌%◌, ◌^◌, ◌<◌, ◌≤◌, cond, List, [], ◌∷◌, ◌++◌, length, ◌==◌}
-use Rattle.std.specs.Int.Bits.{bit_and}
+use Rattle.std.specs.Prelude.{ℕ, zero, suc, ◌+◌, ◌-◌, ◌*◌, ◌%◌, ◌^◌, ◌<◌, ◌≤◌, cond, List, [], ◌∷◌, ◌++◌, length, ◌==◌}
 use Rattle.ebpf.specs.Opcode.{ADD, SUB, MUL, DIV, OR, AND, LSH, RSH, XOR, MOV, JMP, JMP32, JEQ, JNE, JGT, JGE, JLT, JLE, JSET, WORD, HALF, BYTE}
 use Rattle.ebpf.specs.Insn.{alu64_reg, alu64_imm, alu32_imm, to_be, ldx, jump_imm, jump_reg, jump_always}
-use Rattle.ebpf.specs.declared.insn.Insn.{Insn}
 use Rattle.patches.specs.Code.{Slot, with_off}
 use Rattle.patches.specs.declared.Patches.{Patches}
 use Rattle.patches.specs.Code.Slot.{fixed, success, failure}

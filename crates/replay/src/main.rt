@@ -14,17 +14,18 @@
 // A case that is cut, has another tag or is longer than its buffers ends the run with a line that says which case it is.
 #![tactic(auto)]
 
-ghost use Rattle.std.specs.Prelude.{◌<◌, ◌^◌, length};
+ghost use Rattle.std.specs.Prelude.{◌<◌, ◌^◌, length, IfOk};
 ghost use Rattle.replay.specs.Part.{Within};
 
 use capture::{Captured, capture, capture_part};
 use checks::check::{Checked, check_sheet_mode};
 use checks::measure::{Measured, admit, measure};
 use ebpf::run;
-use libc::{STDIN_FILENO, STDOUT_FILENO};
 use meaning::evaluate::{Verdict, evaluate};
 use nots::{Pushed, push_nots};
 use report::{list, report};
+use std::io;
+use std::io::{ErrorKind, Read, Write};
 
 #[derive(Clone, Copy)]
 enum Number {
@@ -61,226 +62,277 @@ fn be8(b: [u8; 8]) -> u64 {
     be4(b[0], b[1], b[2], b[3]) * 4294967296 + be4(b[4], b[5], b[6], b[7])
 }
 
-fn read4() -> Number {
-    let mut b = [0u8; 4];
-    if io::read_full(STDIN_FILENO, &mut b) < 4 {
-        return Number::Missing;
+// Fills `buf`; the answer is false where the input ends before.
+fn read_full<R: Read>(from: &mut R, buf: &mut [u8]) -> io::Result<bool> {
+    match from.read_exact(buf) {
+        Ok(()) => Ok(true),
+        Err(e) => {
+            if e.kind() == ErrorKind::UnexpectedEof {
+                Ok(false)
+            } else {
+                Err(e)
+            }
+        }
     }
-    Number::Value(be4(b[0], b[1], b[2], b[3]))
 }
 
-fn read8() -> Number {
-    let mut b = [0u8; 8];
-    if io::read_full(STDIN_FILENO, &mut b) < 8 {
-        return Number::Missing;
+fn read4<R: Read>(from: &mut R) -> io::Result<Number> {
+    let mut b = [0u8; 4];
+    if !read_full(from, &mut b)? {
+        return Ok(Number::Missing);
     }
-    Number::Value(be8(b))
+    Ok(Number::Value(be4(b[0], b[1], b[2], b[3])))
+}
+
+fn read8<R: Read>(from: &mut R) -> io::Result<Number> {
+    let mut b = [0u8; 8];
+    if !read_full(from, &mut b)? {
+        return Ok(Number::Missing);
+    }
+    Ok(Number::Value(be8(b)))
 }
 
 // A length and as many bytes, into the front of `buf`.
-fn read_part(buf: &mut [u8]) -> Part
-    ensures { Within result (length buf.new) }
+fn read_part<R: Read>(from: &mut R, buf: &mut [u8]) -> io::Result<Part>
+    ensures { IfOk result (λ p. Within p (length buf.new)) }
 {
-    let Number::Value(v) = read4() else {
-        return Part::Bad;
+    let Number::Value(v) = read4(from)? else {
+        return Ok(Part::Bad);
     };
     let n = v as usize;
     if buf.len() < n {
-        return Part::Bad;
+        return Ok(Part::Bad);
     }
-    if io::read_full(STDIN_FILENO, &mut buf[..n]) < n {
-        return Part::Bad;
+    if !read_full(from, &mut buf[..n])? {
+        return Ok(Part::Bad);
     }
-    Part::Bytes(n)
+    Ok(Part::Bytes(n))
 }
 
-fn print_number(n: u64, after: &[u8]) {
-    io::print_decimal(STDOUT_FILENO, n);
-    io::write_all(STDOUT_FILENO, after);
+fn print_number<W: Write>(out: &mut W, n: u64, after: &[u8]) -> io::Result<()> {
+    write!(out, "{n}")?;
+    out.write_all(after)
 }
 
-fn run_machine(program: &[u8], frame: &[u8], start: u64, budget: u64) {
+fn run_machine<W: Write>(
+    out: &mut W,
+    program: &[u8],
+    frame: &[u8],
+    start: u64,
+    budget: u64,
+) -> io::Result<()> {
     let o = run::run(program, frame, start, budget);
-    print_number(o.stop as u64, b" ");
-    print_number(o.r0, b" ");
-    print_number(o.steps, b"\n");
+    print_number(out, o.stop as u64, b" ")?;
+    print_number(out, o.r0, b" ")?;
+    print_number(out, o.steps, b"\n")
 }
 
-fn machine_case(program: &mut [u8], frame: &mut [u8]) -> Next {
-    let Part::Bytes(p) = read_part(program) else {
-        return Next::Broken;
+fn machine_case<R: Read, W: Write>(
+    from: &mut R,
+    out: &mut W,
+    program: &mut [u8],
+    frame: &mut [u8],
+) -> io::Result<Next> {
+    let Part::Bytes(p) = read_part(from, program)? else {
+        return Ok(Next::Broken);
     };
-    let Part::Bytes(f) = read_part(frame) else {
-        return Next::Broken;
+    let Part::Bytes(f) = read_part(from, frame)? else {
+        return Ok(Next::Broken);
     };
-    let Number::Value(start) = read8() else {
-        return Next::Broken;
+    let Number::Value(start) = read8(from)? else {
+        return Ok(Next::Broken);
     };
-    let Number::Value(budget) = read4() else {
-        return Next::Broken;
+    let Number::Value(budget) = read4(from)? else {
+        return Ok(Next::Broken);
     };
-    run_machine(&program[..p], &frame[..f], start, budget);
-    Next::More
+    run_machine(out, &program[..p], &frame[..f], start, budget)?;
+    Ok(Next::More)
 }
 
-fn print_refusal(number: u8, place: u32) {
-    print_number(number as u64, b" ");
-    print_number(place as u64, b"\n");
+fn print_refusal<W: Write>(out: &mut W, number: u8, place: u32) -> io::Result<()> {
+    print_number(out, number as u64, b" ")?;
+    print_number(out, place as u64, b"\n")
 }
 
-fn print_measured(answer: Measured) {
+fn print_measured<W: Write>(out: &mut W, answer: Measured) -> io::Result<()> {
     match answer {
-        Measured::Refused { number, place } => print_refusal(number, place),
+        Measured::Refused { number, place } => print_refusal(out, number, place),
         Measured::Length {
             steps,
             prims,
             tokens,
             length,
         } => {
-            io::write_all(STDOUT_FILENO, b"0 ");
-            print_number(steps as u64, b" ");
-            print_number(prims as u64, b" ");
-            print_number(tokens as u64, b" ");
-            print_number(length, b"\n");
+            out.write_all(b"0 ")?;
+            print_number(out, steps as u64, b" ")?;
+            print_number(out, prims as u64, b" ")?;
+            print_number(out, tokens as u64, b" ")?;
+            print_number(out, length, b"\n")
         }
     }
 }
 
-fn run_check(sheet: &[u8], link: u8, mode: u8) {
+fn run_check<W: Write>(out: &mut W, sheet: &[u8], link: u8, mode: u8) -> io::Result<()> {
     match check_sheet_mode(sheet, link, mode) {
-        Checked::Refused { number, place } => print_refusal(number, place),
+        Checked::Refused { number, place } => print_refusal(out, number, place),
         Checked::Good {
             steps: _,
             prims: _,
             tokens: _,
-        } => print_measured(measure(sheet, link)),
+        } => print_measured(out, measure(sheet, link)),
     }
 }
 
-fn run_admit(sheet: &[u8], link: u8, mode: u8, output: u64, work: u64) {
-    print_measured(admit(sheet, link, mode, output, work));
+fn run_admit<W: Write>(
+    out: &mut W,
+    sheet: &[u8],
+    link: u8,
+    mode: u8,
+    output: u64,
+    work: u64,
+) -> io::Result<()> {
+    print_measured(out, admit(sheet, link, mode, output, work))
 }
 
-fn sheet_case(sheet: &mut [u8]) -> Next {
+fn sheet_case<R: Read, W: Write>(from: &mut R, out: &mut W, sheet: &mut [u8]) -> io::Result<Next> {
     let mut head = [0u8; 2];
-    if io::read_full(STDIN_FILENO, &mut head) < 2 {
-        return Next::Broken;
+    if !read_full(from, &mut head)? {
+        return Ok(Next::Broken);
     }
-    let Part::Bytes(n) = read_part(sheet) else {
-        return Next::Broken;
+    let Part::Bytes(n) = read_part(from, sheet)? else {
+        return Ok(Next::Broken);
     };
-    run_check(&sheet[..n], head[0], head[1]);
-    Next::More
+    run_check(out, &sheet[..n], head[0], head[1])?;
+    Ok(Next::More)
 }
 
-fn admit_case(sheet: &mut [u8]) -> Next {
-    let Number::Value(output) = read8() else {
-        return Next::Broken;
+fn admit_case<R: Read, W: Write>(from: &mut R, out: &mut W, sheet: &mut [u8]) -> io::Result<Next> {
+    let Number::Value(output) = read8(from)? else {
+        return Ok(Next::Broken);
     };
-    let Number::Value(work) = read8() else {
-        return Next::Broken;
+    let Number::Value(work) = read8(from)? else {
+        return Ok(Next::Broken);
     };
     let mut head = [0u8; 2];
-    if io::read_full(STDIN_FILENO, &mut head) < 2 {
-        return Next::Broken;
+    if !read_full(from, &mut head)? {
+        return Ok(Next::Broken);
     }
-    let Part::Bytes(n) = read_part(sheet) else {
-        return Next::Broken;
+    let Part::Bytes(n) = read_part(from, sheet)? else {
+        return Ok(Next::Broken);
     };
-    run_admit(&sheet[..n], head[0], head[1], output, work);
-    Next::More
+    run_admit(out, &sheet[..n], head[0], head[1], output, work)?;
+    Ok(Next::More)
 }
 
-fn run_evaluate(sheet: &[u8], link: u8, frame: &[u8]) {
+fn run_evaluate<W: Write>(out: &mut W, sheet: &[u8], link: u8, frame: &[u8]) -> io::Result<()> {
     match evaluate(sheet, link, frame) {
-        Verdict::Refused { number, place } => print_refusal(number, place),
+        Verdict::Refused { number, place } => print_refusal(out, number, place),
         Verdict::Judged { holds } => {
             if holds {
-                io::write_all(STDOUT_FILENO, b"0 1\n");
+                out.write_all(b"0 1\n")
             } else {
-                io::write_all(STDOUT_FILENO, b"0 0\n");
+                out.write_all(b"0 0\n")
             }
         }
     }
 }
 
-fn evaluate_case(sheet: &mut [u8], frame: &mut [u8]) -> Next {
+fn evaluate_case<R: Read, W: Write>(
+    from: &mut R,
+    out: &mut W,
+    sheet: &mut [u8],
+    frame: &mut [u8],
+) -> io::Result<Next> {
     let mut link = [0u8; 1];
-    if io::read_full(STDIN_FILENO, &mut link) < 1 {
-        return Next::Broken;
+    if !read_full(from, &mut link)? {
+        return Ok(Next::Broken);
     }
-    let Part::Bytes(n) = read_part(sheet) else {
-        return Next::Broken;
+    let Part::Bytes(n) = read_part(from, sheet)? else {
+        return Ok(Next::Broken);
     };
-    let Part::Bytes(m) = read_part(frame) else {
-        return Next::Broken;
+    let Part::Bytes(m) = read_part(from, frame)? else {
+        return Ok(Next::Broken);
     };
-    run_evaluate(&sheet[..n], link[0], &frame[..m]);
-    Next::More
+    run_evaluate(out, &sheet[..n], link[0], &frame[..m])?;
+    Ok(Next::More)
 }
 
-fn compile_case(sheet: &mut [u8], output: &mut [u8], work: &mut [u32]) -> Next {
+fn compile_case<R: Read, W: Write>(
+    from: &mut R,
+    out: &mut W,
+    sheet: &mut [u8],
+    output: &mut [u8],
+    work: &mut [u32],
+) -> io::Result<Next> {
     let mut head = [0u8; 2];
-    if io::read_full(STDIN_FILENO, &mut head) < 2 {
-        return Next::Broken;
+    if !read_full(from, &mut head)? {
+        return Ok(Next::Broken);
     }
-    let Number::Value(o) = read4() else {
-        return Next::Broken;
+    let Number::Value(o) = read4(from)? else {
+        return Ok(Next::Broken);
     };
-    let Number::Value(w) = read4() else {
-        return Next::Broken;
+    let Number::Value(w) = read4(from)? else {
+        return Ok(Next::Broken);
     };
-    let Part::Bytes(n) = read_part(sheet) else {
-        return Next::Broken;
+    let Part::Bytes(n) = read_part(from, sheet)? else {
+        return Ok(Next::Broken);
     };
     let bytes = o as usize;
     let numbers = w as usize;
     if output.len() < bytes {
-        return Next::Broken;
+        return Ok(Next::Broken);
     }
     if work.len() < numbers {
-        return Next::Broken;
+        return Ok(Next::Broken);
     }
     report(
+        out,
         &sheet[..n],
         head[0],
         head[1],
         &mut output[..bytes],
         &mut work[..numbers],
-    );
-    Next::More
+    )?;
+    Ok(Next::More)
 }
 
 // The listing program's buffers are the first so many places.
-fn list_within(
+fn list_within<W: Write>(
+    out: &mut W,
     input: &[u8],
     output: &mut [u8],
     work: &mut [u32],
     bytes: usize,
     numbers: usize,
-) -> Next {
+) -> io::Result<Next> {
     if output.len() < bytes {
-        return Next::Broken;
+        return Ok(Next::Broken);
     }
     if work.len() < numbers {
-        return Next::Broken;
+        return Ok(Next::Broken);
     }
-    list(input, &mut output[..bytes], &mut work[..numbers]);
-    Next::More
+    list(out, input, &mut output[..bytes], &mut work[..numbers])?;
+    Ok(Next::More)
 }
 
-fn listing_case(bytes: &mut [u8], output: &mut [u8], work: &mut [u32]) -> Next {
-    let Part::Bytes(n) = read_part(bytes) else {
-        return Next::Broken;
+fn listing_case<R: Read, W: Write>(
+    from: &mut R,
+    out: &mut W,
+    bytes: &mut [u8],
+    output: &mut [u8],
+    work: &mut [u32],
+) -> io::Result<Next> {
+    let Part::Bytes(n) = read_part(from, bytes)? else {
+        return Ok(Next::Broken);
     };
-    list_within(&bytes[..n], output, work, 65536, 16384)
+    list_within(out, &bytes[..n], output, work, 65536, 16384)
 }
 
-fn print_captured(answer: Captured) {
+fn print_captured<W: Write>(out: &mut W, answer: Captured) -> io::Result<()> {
     match answer {
         Captured::Refused { number, place } => {
-            print_number(number as u64, b" ");
-            print_number(place as u64, b"\n");
+            print_number(out, number as u64, b" ")?;
+            print_number(out, place as u64, b"\n")
         }
         Captured::Counted {
             passed,
@@ -288,16 +340,17 @@ fn print_captured(answer: Captured) {
             cut,
             next,
         } => {
-            io::write_all(STDOUT_FILENO, b"0 ");
-            print_number(passed, b" ");
-            print_number(dropped, b" ");
-            print_number(cut, b" ");
-            print_number(next as u64, b"\n");
+            out.write_all(b"0 ")?;
+            print_number(out, passed, b" ")?;
+            print_number(out, dropped, b" ")?;
+            print_number(out, cut, b" ")?;
+            print_number(out, next as u64, b"\n")
         }
     }
 }
 
-fn run_capture(
+fn run_capture<W: Write>(
+    out: &mut W,
     file: &[u8],
     sheet: &[u8],
     mode: u8,
@@ -305,125 +358,170 @@ fn run_capture(
     work: &mut [u32],
     at: u64,
     most: u64,
-) {
+) -> io::Result<()> {
     if at == 0 {
-        print_captured(capture(file, sheet, mode, output, work));
+        print_captured(out, capture(file, sheet, mode, output, work))
     } else {
-        print_captured(capture_part(file, sheet, mode, output, work, at as usize, most));
+        print_captured(
+            out,
+            capture_part(file, sheet, mode, output, work, at as usize, most),
+        )
     }
 }
 
-fn capture_case(file: &mut [u8], sheet: &mut [u8], output: &mut [u8], work: &mut [u32]) -> Next {
+fn capture_case<R: Read, W: Write>(
+    from: &mut R,
+    out: &mut W,
+    file: &mut [u8],
+    sheet: &mut [u8],
+    output: &mut [u8],
+    work: &mut [u32],
+) -> io::Result<Next> {
     let mut mode = [0u8; 1];
-    if io::read_full(STDIN_FILENO, &mut mode) < 1 {
-        return Next::Broken;
+    if !read_full(from, &mut mode)? {
+        return Ok(Next::Broken);
     }
-    let Number::Value(at) = read8() else {
-        return Next::Broken;
+    let Number::Value(at) = read8(from)? else {
+        return Ok(Next::Broken);
     };
-    let Number::Value(most) = read8() else {
-        return Next::Broken;
+    let Number::Value(most) = read8(from)? else {
+        return Ok(Next::Broken);
     };
-    let Part::Bytes(n) = read_part(sheet) else {
-        return Next::Broken;
+    let Part::Bytes(n) = read_part(from, sheet)? else {
+        return Ok(Next::Broken);
     };
-    let Part::Bytes(m) = read_part(file) else {
-        return Next::Broken;
+    let Part::Bytes(m) = read_part(from, file)? else {
+        return Ok(Next::Broken);
     };
-    run_capture(&file[..m], &sheet[..n], mode[0], output, work, at, most);
-    Next::More
+    run_capture(
+        out,
+        &file[..m],
+        &sheet[..n],
+        mode[0],
+        output,
+        work,
+        at,
+        most,
+    )?;
+    Ok(Next::More)
 }
 
-fn print_byte(byte: u8) {
-    io::print_hex(STDOUT_FILENO, byte as u64, 2);
+fn print_byte<W: Write>(out: &mut W, byte: u8) -> io::Result<()> {
+    write!(out, "{byte:02x}")
 }
 
-fn print_bytes(bytes: &[u8]) {
+fn print_bytes<W: Write>(out: &mut W, bytes: &[u8]) -> io::Result<()> {
     let mut i = 0;
     while i < bytes.len() {
-        print_byte(bytes[i]);
+        print_byte(out, bytes[i])?;
         i += 1;
     }
-    io::write_all(STDOUT_FILENO, b"\n");
+    out.write_all(b"\n")
 }
 
-fn run_nots(sheet: &[u8], output: &mut [u8]) {
+fn run_nots<W: Write>(out: &mut W, sheet: &[u8], output: &mut [u8]) -> io::Result<()> {
     match push_nots(sheet, output) {
-        Pushed::Refused { number, place } => print_refusal(number, place),
+        Pushed::Refused { number, place } => print_refusal(out, number, place),
         Pushed::Length { bytes } => {
             let n = bytes as usize;
-            io::write_all(STDOUT_FILENO, b"0 ");
-            print_number(bytes as u64, b" ");
+            out.write_all(b"0 ")?;
+            print_number(out, bytes as u64, b" ")?;
             if n <= output.len() {
-                print_bytes(&output[..n]);
+                print_bytes(out, &output[..n])?;
             }
+            Ok(())
         }
     }
 }
 
-fn nots_case(sheet: &mut [u8], output: &mut [u8]) -> Next {
-    let Number::Value(o) = read4() else {
-        return Next::Broken;
+fn nots_case<R: Read, W: Write>(
+    from: &mut R,
+    out: &mut W,
+    sheet: &mut [u8],
+    output: &mut [u8],
+) -> io::Result<Next> {
+    let Number::Value(o) = read4(from)? else {
+        return Ok(Next::Broken);
     };
-    let Part::Bytes(n) = read_part(sheet) else {
-        return Next::Broken;
+    let Part::Bytes(n) = read_part(from, sheet)? else {
+        return Ok(Next::Broken);
     };
     let bytes = o as usize;
     if output.len() < bytes {
-        return Next::Broken;
+        return Ok(Next::Broken);
     }
-    run_nots(&sheet[..n], &mut output[..bytes]);
-    Next::More
+    run_nots(out, &sheet[..n], &mut output[..bytes])?;
+    Ok(Next::More)
 }
 
-fn next_case(bytes: &mut [u8], frame: &mut [u8], output: &mut [u8], work: &mut [u32]) -> Next {
+fn next_case<R: Read, W: Write>(
+    from: &mut R,
+    out: &mut W,
+    bytes: &mut [u8],
+    frame: &mut [u8],
+    output: &mut [u8],
+    work: &mut [u32],
+) -> io::Result<Next> {
     let mut tag = [0u8; 1];
-    if io::read_full(STDIN_FILENO, &mut tag) < 1 {
-        return Next::End;
+    if !read_full(from, &mut tag)? {
+        return Ok(Next::End);
     }
     let t = tag[0];
     match t {
-        b'M' => machine_case(bytes, frame),
-        b'S' => sheet_case(bytes),
-        b'A' => admit_case(bytes),
-        b'E' => evaluate_case(bytes, frame),
-        b'C' => compile_case(bytes, output, work),
-        b'L' => listing_case(bytes, output, work),
-        b'P' => capture_case(bytes, frame, output, work),
-        b'N' => nots_case(bytes, output),
-        _ => Next::Broken,
+        b'M' => machine_case(from, out, bytes, frame),
+        b'S' => sheet_case(from, out, bytes),
+        b'A' => admit_case(from, out, bytes),
+        b'E' => evaluate_case(from, out, bytes, frame),
+        b'C' => compile_case(from, out, bytes, output, work),
+        b'L' => listing_case(from, out, bytes, output, work),
+        b'P' => capture_case(from, out, bytes, frame, output, work),
+        b'N' => nots_case(from, out, bytes, output),
+        _ => Ok(Next::Broken),
     }
 }
 
 // The cases up to the input's end, numbered from 1.
-fn replay(bytes: &mut [u8], frame: &mut [u8], output: &mut [u8], work: &mut [u32]) {
+fn replay<R: Read, W: Write>(
+    from: &mut R,
+    out: &mut W,
+    bytes: &mut [u8],
+    frame: &mut [u8],
+    output: &mut [u8],
+    work: &mut [u32],
+) -> io::Result<()> {
     let mut case: u64 = 1;
     while case < 0x1_0000_0000 {
-        match next_case(bytes, frame, output, work) {
+        match next_case(from, out, bytes, frame, output, work)? {
             Next::More => {}
             Next::End => {
                 if case == 1 {
-                    io::write_all(
-                        STDOUT_FILENO,
-                        b"usage: replay < CASES (tests/ says how they are made)\n",
-                    );
+                    writeln!(out, "usage: replay < CASES (tests/ says how they are made)")?;
                 }
-                return;
+                return Ok(());
             }
             Next::Broken => {
-                io::write_all(STDOUT_FILENO, b"case ");
-                print_number(case, b" is cut, too long or of no kind\n");
-                return;
+                out.write_all(b"case ")?;
+                return print_number(out, case, b" is cut, too long or of no kind\n");
             }
         }
         case += 1;
     }
+    Ok(())
 }
 
-fn main() {
+fn main(rt: HostRuntime) -> io::Result<()> {
+    let mut from = rt.stdin();
+    let mut out = rt.stdout();
     let mut bytes = [0u8; 589824];
     let mut frame = [0u8; 65536];
     let mut output = [0u8; 1048576];
     let mut work = [0u32; 1048576];
-    replay(&mut bytes, &mut frame, &mut output, &mut work);
+    replay(
+        &mut from,
+        &mut out,
+        &mut bytes,
+        &mut frame,
+        &mut output,
+        &mut work,
+    )
 }

@@ -9,17 +9,15 @@ use filter::ast::{Primitive, Proto};
 use filter::bytes::count_at;
 use filter::record::primitive_at;
 use generator::{Compiled, compile};
-use libc::STDOUT_FILENO;
+use std::io;
+use std::io::Write;
 
-fn write(text: &[u8]) {
-    io::write_all(STDOUT_FILENO, text);
+fn write<W: Write>(out: &mut W, text: &[u8]) -> io::Result<()> {
+    out.write_all(text)
 }
 
-fn print_line(a: u64, b: u64) {
-    io::print_decimal(STDOUT_FILENO, a);
-    write(b" ");
-    io::print_decimal(STDOUT_FILENO, b);
-    write(b"\n");
+fn print_line<W: Write>(out: &mut W, a: u64, b: u64) -> io::Result<()> {
+    writeln!(out, "{a} {b}")
 }
 
 // A number below 16 as a lower-case hex digit.
@@ -38,7 +36,7 @@ fn low(b: u8) -> u8 {
 }
 
 // Eight bytes in hex, one line.
-fn print_insn(bytes: &[u8])
+fn print_insn<W: Write>(out: &mut W, bytes: &[u8]) -> io::Result<()>
     requires { 8 ≤ length bytes.now }
 {
     let mut line = [b'\n'; 17];
@@ -49,20 +47,21 @@ fn print_insn(bytes: &[u8])
         line[2 * i + 1] = low(b);
         i += 1;
     }
-    io::write_all(STDOUT_FILENO, &line);
+    write(out, &line)
 }
 
-fn print_program(code: &[u8], n: usize)
+fn print_program<W: Write>(out: &mut W, code: &[u8], n: usize) -> io::Result<()>
     requires { 8 * n ≤ length code.now }
 {
-    print_line(0, n as u64);
+    print_line(out, 0, n as u64)?;
     let mut k = 0;
     while k < n {
         let at = 8 * k;
         let end = at + 8;
-        print_insn(&code[at..end]);
+        print_insn(out, &code[at..end])?;
         k += 1;
     }
+    Ok(())
 }
 
 fn proto_ethertype(proto: Proto) -> u16 {
@@ -101,64 +100,88 @@ fn ethertype_at(sheet: &[u8], place: usize) -> u16 {
     ethertype_of(primitive_at(&sheet[from..], place as u32))
 }
 
-fn print_ethertype(et: u16) {
-    write(b"ethertype 0x");
-    io::print_hex(STDOUT_FILENO, et as u64, 4);
-    write(b" cannot be matched on RawIp captures\n");
+fn print_ethertype<W: Write>(out: &mut W, et: u16) -> io::Result<()> {
+    writeln!(
+        out,
+        "ethertype 0x{et:04x} cannot be matched on RawIp captures"
+    )
 }
 
 // The Rust's message, if the refusal has one; 11 names the ethertype that was refused.
-fn print_message(number: u8, et: u16) {
+fn print_message<W: Write>(out: &mut W, number: u8, et: u16) -> io::Result<()> {
     match number {
-        10 => write(b"filter expression is too complex: eBPF jump offset overflow\n"),
-        11 => print_ethertype(et),
-        13 => write(b"ether host cannot be used with RawIp link type\n"),
-        14 => write(b"ether multicast cannot be used with RawIp link type\n"),
-        15 => write(b"mpls cannot be matched on RawIp captures\n"),
-        16 => write(b"inbound/outbound direction cannot be expressed in eBPF\n"),
-        17 => write(b"expr-vs-expr byte-access comparison is not yet supported for eBPF targets\n"),
-        18 => write(b"division by zero in byte-access expression\n"),
-        19 => write(b"modulo (%) is not supported in eBPF byte-access expressions\n"),
-        _ => {}
+        10 => write(
+            out,
+            b"filter expression is too complex: eBPF jump offset overflow\n",
+        ),
+        11 => print_ethertype(out, et),
+        13 => write(out, b"ether host cannot be used with RawIp link type\n"),
+        14 => write(
+            out,
+            b"ether multicast cannot be used with RawIp link type\n",
+        ),
+        15 => write(out, b"mpls cannot be matched on RawIp captures\n"),
+        16 => write(
+            out,
+            b"inbound/outbound direction cannot be expressed in eBPF\n",
+        ),
+        17 => write(
+            out,
+            b"expr-vs-expr byte-access comparison is not yet supported for eBPF targets\n",
+        ),
+        18 => write(out, b"division by zero in byte-access expression\n"),
+        19 => write(
+            out,
+            b"modulo (%) is not supported in eBPF byte-access expressions\n",
+        ),
+        _ => Ok(()),
     }
 }
 
-// `compile`, and its answer on standard output.
-pub fn report(sheet: &[u8], link: u8, mode: u8, output: &mut [u8], work: &mut [u32])
+// `compile`, and its answer printed to `out`. What `output` and `work` hold does not depend on whether a write fails.
+pub fn report<W: Write>(
+    out: &mut W,
+    sheet: &[u8],
+    link: u8,
+    mode: u8,
+    output: &mut [u8],
+    work: &mut [u32],
+) -> io::Result<()>
     ensures output_after { output.new ≡ output_after (outcome_of sheet.now link mode (length output.old) (length work.old)) output.old }
     ensures work_after { work.new ≡ work_after (outcome_of sheet.now link mode (length output.old) (length work.old)) work.old }
 {
     match compile(sheet, link, mode, output, work) {
         Compiled::Refused { number, place } => {
-            print_line(number as u64, place as u64);
-            print_message(number, ethertype_at(sheet, place));
+            print_line(out, number as u64, place as u64)?;
+            print_message(out, number, ethertype_at(sheet, place))
         }
-        Compiled::Program { length } => print_program(output, length),
+        Compiled::Program { length } => print_program(out, output, length),
     }
 }
 
 // Document 01's listing program, once its input is read: link byte, mode byte, sheet.
-pub fn list(input: &[u8], output: &mut [u8], work: &mut [u32])
+pub fn list<W: Write>(
+    out: &mut W,
+    input: &[u8],
+    output: &mut [u8],
+    work: &mut [u32],
+) -> io::Result<()>
     ensures output_after { output.new ≡ output_after (listed input.now (length output.old) (length work.old)) output.old }
     ensures work_after { work.new ≡ work_after (listed input.now (length output.old) (length work.old)) work.old }
 {
     if input.len() < 2 {
-        print_line(1, 0);
-        return;
+        return print_line(out, 1, 0);
     }
     let link = input[0];
     let mode = input[1];
     if 2 < link {
-        print_line(1, 0);
-        return;
+        return print_line(out, 1, 0);
     }
     if 1 < mode {
-        print_line(1, 0);
-        return;
+        return print_line(out, 1, 0);
     }
     if 65538 < input.len() {
-        print_line(2, 0);
-        return;
+        return print_line(out, 2, 0);
     }
-    report(&input[2..], link, mode, output, work);
+    report(out, &input[2..], link, mode, output, work)
 }

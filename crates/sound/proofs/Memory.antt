@@ -3,7 +3,7 @@ use Prim.Native.Nat.{ℕ, zero, suc, ◌+◌, ◌-◌, ◌*◌, ◌/◌, ◌%◌
 use mathlib.Core.Path.{◌≡◌, refl, ap, ◌∙◌}
 use mathlib.Core.Logic.{◌⊎◌, inl, inr}
 use mathlib.Core.Bool.{Bool, true, false, not, cond, ◌&&◌}
-use mathlib.Core.List.{List, [], ◌∷◌}
+use mathlib.Core.List.{List}
 use native.Mathlib.Omega.{arith}
 use borrow.Author.Tests.{eqb-true, leb-true}
 use lib.ListN.{length}
@@ -22,7 +22,7 @@ use Rattle.ebpf.specs.declared.step.State.{State}
 use Rattle.ebpf.specs.declared.step.Status.{Status}
 use Rattle.ebpf.specs.declared.step.Status.TheVariants.{Going, Halted}
 use Rattle.ebpf.specs.declared.run.Outcome.{Outcome}
-use Rattle.sound.specs.Memory.{Ask, nothing, context, bytes, ask_of, ask_at, further, asks_of, Inside, AllInside, Same, AllSame}
+use Rattle.sound.specs.Memory.{Ask, nothing, bytes, ask_of, ask_at, further, asks_of, Inside, AllInside, Same, AllSame}
 
 module _ (frame : List ℕ) (start : ℕ) where
   -- A context load that does not stop is at 0 or 4.

@@ -4,7 +4,7 @@ use mathlib.Core.Path.{◌≡◌, ◌∙◌}
 use mathlib.Core.Bool.{Bool, true, false, cond, ◌&&◌}
 use mathlib.Core.List.{List, [], ◌∷◌, ◌++◌}
 use native.Mathlib.Omega.{arith}
-use native.Mathlib.Nat.{mod-lt, mod-eq_of_lt}
+use native.Mathlib.Nat.{mod-eq_of_lt}
 use lib.Dec.{eqb, leb, ltb}
 use lib.Bits.{bit_and, and_mask, and_le_l}
 use Rattle.ebpf.specs.Opcode.{AND, JNE}

@@ -21,7 +21,7 @@ use Rattle.filter.specs.declared.ast.ByteAccess as access
 use Rattle.filter.specs.declared.ast.Primitive.{Primitive}
 use Rattle.filter.specs.declared.ast.Primitive.TheVariants.{Host, Host6, Port, PortRange, Net, Net6, Proto, EtherHost, EtherProto, EtherMulticast, IpBroadcast, IpMulticast, Ip6Multicast, Vlan, Mpls, PppoeDiscovery, PppoeSession, IpProtoChain, Ip6ProtoChain, Len, Inbound, Outbound, ByteAccess}
 use Rattle.checks.specs.Refusal.{unless_ether, proto_refusal, rhs_refusal, steps_refusal, access_refusal, refusal}
-use Rattle.meaning.specs.Meaning.{compared, tagged, host4, address4, net4, protocol, mpls, access_at, access_layer, access_rhs, byte_access, means}
+use Rattle.meaning.specs.Meaning.{compared, host4, address4, net4, protocol, mpls, access_at, access_layer, access_rhs, byte_access, means}
 use Rattle.meaning.specs.Constants.{small_compared, small_rhs, small_label, small_constants}
 use Rattle.program.specs.Ends.{Frame}
 use Rattle.sound.specs.Piece.{Tests, Means}

@@ -23,5 +23,5 @@ pub returns-in-Refused : goal.returns-in-Refused
 returns-in-Refused c = record { value = sheet_refused _ _ _ _ _ _ _ _ _ _ _ (sym c.compile.ensures.value ∙ c.in-Refused.is); output_after = c.compile.ensures.output_after; work_after = c.compile.ensures.work_after }
 
 pub returns-in-Program : goal.returns-in-Program
-returns-in-Program c =  let a = c.args in let m = sym c.compile.ensures.value ∙ c.in-Program.is in let b : Bytes a.sheet.now = λ i. omega (arith, c.shared_slice_known-2-1.given i) in
+returns-in-Program c = let a = c.args in let m = sym c.compile.ensures.value ∙ c.in-Program.is in let b : Bytes a.sheet.now = λ i. omega (arith, c.shared_slice_known-2-1.given i) in
     record { value = all_judged _ _ _ _ _ _ _ _ _ _ m _ (rw (c.compile.ensures.output_after, written a.sheet.now a.link a.mode (length a.work.now) _ a.output.now b m) at c.judge_records.ensures); output_after = c.compile.ensures.output_after; work_after = c.compile.ensures.work_after }

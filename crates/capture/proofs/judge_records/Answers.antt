@@ -1,4 +1,3 @@
-use Prim.Native.Nat.{◌-◌}
 use mathlib.Core.Path.{sym, ◌∙◌}
 use Rattle.savefile.proofs.Walks.{inside}
 use Rattle.capture.proofs.Counts.{total, total_next, judged_first, judged_end, judged_none, judged_next, judged_fault}
@@ -17,7 +16,7 @@ overflow_add-at c = let h = inside _ _ _ _ _ (sym c.next_of.ensures ∙ c.in-Rec
 
 pub judge_record-t-requires : goal.judge_record-t-requires
 unfolding total
-judge_record-t-requires c =  let h = inside _ _ _ _ _ (sym c.next_of.ensures ∙ c.in-Record.is) in
+judge_record-t-requires c = let h = inside _ _ _ _ _ (sym c.next_of.ensures ∙ c.in-Record.is) in
     record { captured_in_bounds = (h.0, h.1); always = c.requires; passed_bound = (omega (arith, h.0, c.loop-left.invariant.0), omega (arith, h.0, c.loop-left.invariant.0), omega (arith, h.0, c.loop-left.invariant.0)) }
 
 pub overflow_add-at-in-Record : goal.overflow_add-at-in-Record

@@ -1,5 +1,5 @@
 -- What is counted and what the walk from here adds give what the whole walk gives.
-use Prim.Native.Nat.{◌-◌, ◌≤◌}
+use Prim.Native.Nat.{◌≤◌}
 use mathlib.Core.Path.{◌≡◌}
 use Rattle.savefile.specs.Savefile.{walk_of}
 use Rattle.capture.specs.Capture.{judged_walk}

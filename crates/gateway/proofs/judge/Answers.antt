@@ -9,7 +9,7 @@ use Rattle.gateway.proofs.Judges.{room, gives, too_long, passed, dropped}
 use Rattle.gateway.proofs.judge.Goals as goal
 
 pub returns-then-frame-gt4294967295 : goal.returns-then-frame-gt4294967295
-returns-then-frame-gt4294967295 c = 
+returns-then-frame-gt4294967295 c =
     let a = c.args in
     let m = sym c.compile.ensures.value ∙ c.in-Program.is in
     record { value = too_long _ _ _ _ m (omega arith); output_after = c.compile.ensures.output_after; work_after = c.compile.ensures.work_after }
@@ -40,14 +40,14 @@ unfolding judged_of
 returns-in-Refused c = record { value = rw (← c.compile.ensures.value, c.in-Refused.is) refl; output_after = c.compile.ensures.output_after; work_after = c.compile.ensures.work_after }
 
 pub returns-then-end-eq2 : goal.returns-then-end-eq2
-returns-then-end-eq2 c = 
+returns-then-end-eq2 c =
     let a = c.args in
     let m = sym c.compile.ensures.value ∙ c.in-Program.is in
     let r = gives a.sheet.now a.link a.output.now (length a.work.now) _ (λ i. omega (arith, c.shared_slice_known-1.given i)) m a.frame.now (λ i. omega (arith, c.shared_slice_known-2-1.given i)) (omega arith) c.run-end.result (rw c.compile.ensures.output_after at c.run-end.ensures) in
     record { value = passed _ _ _ (sheet_holds a.sheet.now a.link a.frame.now) m (omega arith) _ r c.if-end-eq2.true; output_after = c.compile.ensures.output_after; work_after = c.compile.ensures.work_after }
 
 pub returns-else-end-eq2 : goal.returns-else-end-eq2
-returns-else-end-eq2 c = 
+returns-else-end-eq2 c =
     let a = c.args in
     let m = sym c.compile.ensures.value ∙ c.in-Program.is in
     let r = gives a.sheet.now a.link a.output.now (length a.work.now) _ (λ i. omega (arith, c.shared_slice_known-1.given i)) m a.frame.now (λ i. omega (arith, c.shared_slice_known-2-1.given i)) (omega arith) c.run-end.result (rw c.compile.ensures.output_after at c.run-end.ensures) in

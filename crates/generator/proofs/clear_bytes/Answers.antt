@@ -1,4 +1,3 @@
-use Prim.Native.Nat.{◌-◌}
 use native.Mathlib.Omega.{arith}
 use Rattle.generator.proofs.Clears.{clear_begins, clear_next, clear_length, clear_ends}
 use Rattle.generator.proofs.clear_bytes.Goals as goal

@@ -31,7 +31,7 @@ slice_bounds-generate-end-in-Length-2 c =
 
 pub generate-requires : goal.generate-requires
 unfolding steps_part prims_part tokens_part
-generate-requires c = 
+generate-requires c =
     let a = c.args in
     let v = admitted a.sheet.now a.link a.mode (length a.output.now) (length a.work.now) _ _ _ _ (sym c.admit.ensures ∙ c.in-Length.is) in
     record { sized = rw c.link_of.ensures (sheet_sized v a.mode (omega arith) (omega arith) (omega arith)); l_in_bounds = (v.bytes, omega (arith, v.numbers, tokens_length v)) }

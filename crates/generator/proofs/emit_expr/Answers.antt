@@ -1,4 +1,3 @@
-use Prim.Native.Nat.{◌-◌}
 use mathlib.Core.Path.{sym, subst}
 use native.Mathlib.Omega.{arith}
 use Rattle.patches.specs.Machine.{Tpl, size_of, LeafOk}
@@ -48,11 +47,14 @@ pub primitive_at-prim-requires : goal.primitive_at-prim-requires
 primitive_at-prim-requires c = tt
 
 pub emit_operand-requires : goal.emit_operand-requires
-emit_operand-requires c = 
+emit_operand-requires c =
     let a = c.args in let p = c.loop-i in let v = p.invariant in
     let q = read a.mode a.link a.steps.now a.prims.now a.tokens.now a.l a.out.now a.work.now v c.primitive_at-prim.result c.primitive_at-prim.ensures in
-    record { some_leaf = subst (λ (t : Tpl). SomeLeaf a.l p.work p.n p.st (size_of t)) (sym q)
-          (leaf_room a.mode a.link a.steps.now a.prims.now a.tokens.now a.l a.out.now a.work.now v c.loop-i-test.true c.if-t-ne0.false); l_in_bounds = (v.bytes, v.short) }
+    record {
+      some_leaf = subst (λ (t : Tpl). SomeLeaf a.l p.work p.n p.st (size_of t)) (sym q)
+          (leaf_room a.mode a.link a.steps.now a.prims.now a.tokens.now a.l a.out.now a.work.now v c.loop-i-test.true c.if-t-ne0.false);
+      l_in_bounds = (v.bytes, v.short);
+    }
 
 pub takes_steps-requires : goal.takes_steps-requires
 takes_steps-requires c = tt

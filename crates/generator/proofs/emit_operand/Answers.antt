@@ -22,7 +22,7 @@ of_triple_leaf_ok : {A B C : Type 0} → A × (B × C) → record { leaf_ok : A;
 of_triple_leaf_ok p = record { leaf_ok = p.0; same_from = p.1.0; same_from_2 = p.1.1 }
 
 pub returns-then-code-ne0 : goal.returns-then-code-ne0
-returns-then-code-ne0 c = 
+returns-then-code-ne0 c =
     let a = c.args in
     let d = denied a.mode a.link a.steps.now a.from a.prim (rw c.refusal_of-code.ensures at c.if-code-ne0.true) in
     record { leaf_ok = rw (c.at.ensures, c.refusal_of-code.ensures) (leaf_refused a.l a.n a.k _ _ d a.out.now a.work.now a.st a.out.now a.work.now); same_from = (λ p h. refl); same_from_2 = (λ p h. refl) }
@@ -33,10 +33,13 @@ emit_primitive-x-requires c =
     leaf_fits a.mode a.link a.steps.now a.from a.prim c.requires.l_in_bounds.1 (rw c.refusal_of-code.ensures at c.if-code-ne0.false) c.requires.some_leaf
 
 pub finish-requires : goal.finish-requires
-finish-requires c = 
+finish-requires c =
     let a = c.args in let z = rw c.refusal_of-code.ensures at c.if-code-ne0.false in
-    record { some = leaf_some a.l a.n a.k (emit_primitive a.mode a.link a.steps.now a.from a.prim) a.out.now a.work.now a.st c.emit_primitive-x.new.out c.emit_primitive-x.new.work c.emit_primitive-x.result c.emit_primitive-x.ensures
-          (leaf_size a.mode a.link a.steps.now a.from a.prim z c.requires.some_leaf); l_in_bounds = (omega (arith, c.emit_primitive-x.auto.out, c.requires.l_in_bounds.0), c.requires.l_in_bounds.1) }
+    record {
+      some = leaf_some a.l a.n a.k (emit_primitive a.mode a.link a.steps.now a.from a.prim) a.out.now a.work.now a.st c.emit_primitive-x.new.out c.emit_primitive-x.new.work c.emit_primitive-x.result c.emit_primitive-x.ensures
+          (leaf_size a.mode a.link a.steps.now a.from a.prim z c.requires.some_leaf);
+      l_in_bounds = (omega (arith, c.emit_primitive-x.auto.out, c.requires.l_in_bounds.0), c.requires.l_in_bounds.1);
+    }
 
 pub returns : goal.returns
 returns c = of_triple_leaf_ok (let a = c.args in let xs = emit_primitive a.mode a.link a.steps.now a.from a.prim in

@@ -12,7 +12,7 @@ pub emit_exits-requires : goal.emit_exits-requires
 emit_exits-requires c = let a = c.args in let p = c.requires.pos_bound in exits_fit a.l a.st p.0 p.2
 
 pub resolve_all-requires : goal.resolve_all-requires
-resolve_all-requires c = 
+resolve_all-requires c =
     let a = c.args in let s = c.requires.some in let p = c.requires.pos_bound in let w = work_is a.l a.out.now a.work.now a.st s p.0 c.emit_exits.new.out c.emit_exits.new.work c.emit_exits.result c.emit_exits.ensures in
     record { descends = rw w s.rel.descends; l_in_bounds = (omega (arith, s.rel.room, c.emit_exits.auto.work), omega (arith, c.at-success.ensures, s.rel.success_list.below, p.0), omega (arith, c.at-success.ensures, c.at-accept.ensures, s.rel.success_list.below), omega (arith, p.1, c.emit_exits.auto.out)) }
 
@@ -20,7 +20,7 @@ pub overflow_add-accept : goal.overflow_add-accept
 overflow_add-accept c = omega (arith, c.at-accept.ensures, c.requires.pos_bound.0, c.requires.pos_bound.2)
 
 pub resolve_all-requires-in-Done : goal.resolve_all-requires-in-Done
-resolve_all-requires-in-Done c = 
+resolve_all-requires-in-Done c =
     let a = c.args in let s = c.requires.some in let p = c.requires.pos_bound in let w = work_is a.l a.out.now a.work.now a.st s p.0 c.emit_exits.new.out c.emit_exits.new.work c.emit_exits.result c.emit_exits.ensures in
     record { descends = rw w s.rel.descends; l_in_bounds = (omega (arith, s.rel.room, c.emit_exits.auto.work), omega (arith, c.at-failure.ensures, s.rel.failure_list.below, p.0), omega (arith, c.at-failure.ensures, c.at-accept.ensures, s.rel.failure_list.below), omega (arith, p.1, c.resolve_all.auto.out, c.emit_exits.auto.out)) }
 

@@ -2,7 +2,7 @@ use Rattle.std.proofs.Common.{◌-◌}
 use Rattle.layers_main.proofs.compare_steps.Given as goal
 
 abbrev pub invariant-loop-n : goal.invariant-loop-n
-invariant-loop-n l = Unit
+invariant-loop-n g l = Unit
 
 abbrev pub decreases-loop-n : goal.decreases-loop-n
-decreases-loop-n l = 12 - l.n
+decreases-loop-n g l = 12 - l.n

@@ -1,23 +1,18 @@
-use Rattle.std.proofs.Common.{◌-◌, Bool, false, List, length, get_or, ap, arith}
+use Rattle.std.proofs.Common.{Bool, false, List, length, get_or, ap, arith}
 use Rattle.layers_main.proofs.Same.{yes, no, marks_same, marks_differ, one_more, all_same}
 use Rattle.layers_main.proofs.same_marks.Goals as goal
 
--- src/main.rt:41:9
 pub returns-then-a-b : goal.returns-then-a-b
 returns-then-a-b c = no (λ e. c.if-a-b.true (ap length e))
 
--- src/main.rt:44:5
 pub loop-i-init : goal.loop-i-init
 loop-i-init c = (c.if-a-b.false, λ p h. absurd (omega (arith, h)))
 
--- src/main.rt:46:13
 pub returns-then-a-i : goal.returns-then-a-i
 returns-then-a-i c = no (λ e. marks_differ _ _ c.if-a-i.true (ap (λ (l : List Bool). get_or l c.loop-i.i false) e))
 
--- src/main.rt:44:5
 pub loop-i-preserved : goal.loop-i-preserved
 loop-i-preserved c = (c.loop-i.invariant.0, one_more false c.args.a.now c.args.b.now _ c.loop-i.invariant.1 (marks_same _ _ c.if-a-i.false))
 
--- src/main.rt:37:1
 pub returns : goal.returns
 returns c = yes (all_same false c.args.a.now c.args.b.now _ c.loop-i.invariant.0 c.loop-i-test.false c.loop-i.invariant.1)

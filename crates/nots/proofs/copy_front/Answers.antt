@@ -1,6 +1,5 @@
 use Rattle.nots.specs.Turn.{laid}
 use Rattle.nots.proofs.Writes.{copied_none, copied_more}
-use Prim.Native.Nat.{◌-◌}
 use native.Mathlib.Omega.{arith}
 use mathlib.Core.Path.{◌≡◌, refl, ap, ◌∙◌}
 use lib.ListN.{take, length-set}
@@ -22,12 +21,11 @@ pub loop-i-smaller : goal.loop-i-smaller
 loop-i-smaller c = omega (arith, c.loop-i-test.true)
 
 pub loop-i-preserved : goal.loop-i-preserved
-loop-i-preserved c = let a = c.args in let l = c.loop-i in
-    (
-      omega (arith, c.loop-i-test.true),
-      length-set l.output l.i _ ∙ l.invariant.1,
-      copied_more a.sheet.now a.output.now l.i (omega (arith, c.loop-i-test.true, c.requires.0)) l.invariant.2,
-    )
+loop-i-preserved c = let a = c.args in let l = c.loop-i in (
+  omega (arith, c.loop-i-test.true),
+  length-set l.output l.i _ ∙ l.invariant.1,
+  copied_more a.sheet.now a.output.now l.i (omega (arith, c.loop-i-test.true, c.requires.0)) l.invariant.2,
+)
 
 pub returns : goal.returns
 returns c = let l = c.loop-i in

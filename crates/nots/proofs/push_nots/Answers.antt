@@ -17,7 +17,7 @@ slice_bounds-push_tree-end c = omega (arith, sized c.args.sheet.now (sorted c.ar
 
 pub push_tree-requires : goal.push_tree-requires
 unfolding tokens_part
-push_tree-requires c =  let s = c.args.sheet.now in let t = sorted s (sym c.check_whole.ensures ∙ c.in-Good.is) in
+push_tree-requires c = let s = c.args.sheet.now in let t = sorted s (sym c.check_whole.ensures ∙ c.in-Good.is) in
     record { front_in_bounds = (omega (arith, sized s t.found), omega arith); tokens_len_bound = (rw (tokens_length s t) (omega arith), tokens_begin s t) }
 
 pub returns-in-Refused : goal.returns-in-Refused

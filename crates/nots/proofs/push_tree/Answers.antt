@@ -15,7 +15,7 @@ returns-then-size-gt65535 c = record { value = room_many _ _ _ (sym c.size_at.en
 
 pub returns-then-output-length : goal.returns-then-output-length
 unfolding sheet_after
-returns-then-output-length c =  let a = c.args in let n = length-take-le a.front a.sheet.now c.requires.front_in_bounds.0 in
+returns-then-output-length c = let a = c.args in let n = length-take-le a.front a.sheet.now c.requires.front_in_bounds.0 in
     record { value = room_short _ _ _ (sym c.size_at.ensures ∙ c.in-Fits.is) c.if-size-gt65535.false (omega (arith, n, c.if-output-length.true)); output_after = refl }
 
 pub write_sheet-requires : goal.write_sheet-requires
@@ -27,6 +27,6 @@ returns-in-TooDeep c = record { value = room_deep _ _ _ (sym c.size_at.ensures �
 
 pub returns-else-output-length : goal.returns-else-output-length
 unfolding sheet_after wanted_at tree_at tree_of
-returns-else-output-length c =  let a = c.args in let n = length-take-le a.front a.sheet.now c.requires.front_in_bounds.0 in
+returns-else-output-length c = let a = c.args in let n = length-take-le a.front a.sheet.now c.requires.front_in_bounds.0 in
     let e = sym c.size_at.ensures ∙ c.in-Fits.is in
     record { value = room_enough (take a.front a.sheet.now) a.tokens.now (length a.output.now) e n c.if-size-gt65535.false c.if-output-length.false; output_after = c.write_sheet.ensures }

@@ -23,7 +23,7 @@ returns-then-op-eq-OR_DONE c = of_triple_close_ok (let a = c.args in close_or_do
     (rw c.turned.ensures at c.right-y.ensures.value) c.turned-then-op-eq-OR_DONE.ensures (rw c.turned.ensures at c.right-y.ensures.work_after))
 
 pub left-requires : goal.left-requires
-left-requires c =  let t = c.requires.some_top in let r = t.rel in
+left-requires c = let t = c.requires.some_top in let r = t.rel in
     record { descends = r.descends; l_in_bounds = (omega (arith, r.room), omega (arith, r.success_list.below, r.pos_in), r.success_list.below, c.requires.l_in_bounds.0, omega (arith, r.room)) }
 
 pub returns-then-op-eq-AND_RIGHT : goal.returns-then-op-eq-AND_RIGHT
@@ -38,7 +38,7 @@ push_success-requires c = let a = c.args in let t = c.requires.some_top in
     omega (arith, h, t.rel.room, c.requires.l_in_bounds.0, c.requires.l_in_bounds.1)
 
 pub left-requires-then-op-eq-OR_RIGHT : goal.left-requires-then-op-eq-OR_RIGHT
-left-requires-then-op-eq-OR_RIGHT c =  let a = c.args in let r = rel_some a.l a.n a.out.now a.work.now a.op a.st c.requires.some_top c.if-op-eq-AND_DONE.false c.if-op-eq-OR_DONE.false c.if-op-eq-AND_RIGHT.false c.push_success.result c.turned-x.result c.push_success.new.out c.push_success.new.work c.ja.result c.ja.ensures c.push_success.ensures c.turned-x.ensures in
+left-requires-then-op-eq-OR_RIGHT c = let a = c.args in let r = rel_some a.l a.n a.out.now a.work.now a.op a.st c.requires.some_top c.if-op-eq-AND_DONE.false c.if-op-eq-OR_DONE.false c.if-op-eq-AND_RIGHT.false c.push_success.result c.turned-x.result c.push_success.new.out c.push_success.new.work c.ja.result c.ja.ensures c.push_success.ensures c.turned-x.ensures in
     record { descends = r.descends; l_in_bounds = (omega (arith, r.room), omega (arith, r.success_list.below, r.pos_in), r.success_list.below, omega (arith, c.push_success.auto.out, c.requires.l_in_bounds.0), omega (arith, r.room)) }
 
 pub returns-then-op-eq-OR_RIGHT : goal.returns-then-op-eq-OR_RIGHT
@@ -46,7 +46,7 @@ returns-then-op-eq-OR_RIGHT c = of_triple_close_ok (let a = c.args in close_or_r
     c.if-op-eq-OR_RIGHT.true c.left-then-op-eq-OR_RIGHT.result c.left-then-op-eq-OR_RIGHT.new.out c.left-then-op-eq-OR_RIGHT.new.work c.left-then-op-eq-OR_RIGHT.ensures.value c.left-then-op-eq-OR_RIGHT.ensures.out_after c.left-then-op-eq-OR_RIGHT.ensures.work_after)
 
 pub land-requires : goal.land-requires
-land-requires c =  let a = c.args in let r = rel_some a.l a.n a.out.now a.work.now a.op a.st c.requires.some_top c.if-op-eq-AND_DONE.false c.if-op-eq-OR_DONE.false c.if-op-eq-AND_RIGHT.false c.push_success.result c.turned-x.result c.push_success.new.out c.push_success.new.work c.ja.result c.ja.ensures c.push_success.ensures c.turned-x.ensures in
+land-requires c = let a = c.args in let r = rel_some a.l a.n a.out.now a.work.now a.op a.st c.requires.some_top c.if-op-eq-AND_DONE.false c.if-op-eq-OR_DONE.false c.if-op-eq-AND_RIGHT.false c.push_success.result c.turned-x.result c.push_success.new.out c.push_success.new.work c.ja.result c.ja.ensures c.push_success.ensures c.turned-x.ensures in
     record { descends = r.descends; l_in_bounds = (omega (arith, r.room), omega (arith, r.success_list.below, r.pos_in), r.success_list.below, omega (arith, c.push_success.auto.out, c.requires.l_in_bounds.0)) }
 
 pub returns : goal.returns

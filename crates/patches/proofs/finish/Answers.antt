@@ -1,17 +1,15 @@
-use Prim.Native.Nat.{ℕ, ◌+◌, ◌-◌, ◌*◌, ◌<◌, ◌≤◌}
+use Prim.Native.Nat.{ℕ, ◌+◌, ◌-◌, ◌*◌, ◌<◌}
 use mathlib.Core.Path.{◌≡◌, refl, ◌∙◌}
 use mathlib.Core.List.{List}
 use native.Mathlib.Omega.{arith}
 use lib.ListN.{length}
 use Rattle.patches.specs.declared.Patches.{Patches}
-use Rattle.patches.specs.Rel.{Frame, Rel, Some, owed}
+use Rattle.patches.specs.Rel.{Some}
 use Rattle.patches.specs.Finish.{finish_ops}
-use Rattle.patches.specs.Same.{SameFrom}
 use Rattle.patches.proofs.Finishes.{Now, top, top_some, next_up, next_stay, next_far, bottom}
 use Rattle.patches.proofs.Unchanged.{from_trans, from_more}
 use Rattle.patches.proofs.finish.Invariants.{Inv}
 use Rattle.patches.proofs.finish.Goals as goal
-
 
 some : {l : ℕ} {w : List ℕ} {n : ℕ} {st : Patches} (s : Some l w n st) (o₀ o w' : List ℕ) (m : ℕ) (x : Patches) → Inv o₀ w l n st o m x w'
     → Now l (finish_ops s.fs st.pos o₀ s.sp s.fp) o w' m x
@@ -48,7 +46,7 @@ pub overflow_sub-n : goal.overflow_sub-n
 overflow_sub-n c = omega arith
 
 pub close-requires : goal.close-requires
-close-requires c =  let p = c.loop-n in let a = c.args in
+close-requires c = let p = c.loop-n in let a = c.args in
     let y = some c.requires.some a.out.now p.out p.work p.n p.st p.invariant in
     let z : 0 < p.n = omega arith in
     record { some_top = top_some a.l p.work p.n p.st y.fs y.sp y.fp y.lo (top a.l p.work p.n p.st y.fs y.sp y.fp y.lo z y.rel y.budget); l_in_bounds = (p.invariant.outs, c.requires.l_in_bounds.1) }
@@ -75,15 +73,23 @@ loop-n-preserved c = let p = c.loop-n in let a = c.args in let v = p.invariant i
     }
 
 pub returns-in-Stay : goal.returns-in-Stay
-returns-in-Stay c =  let p = c.loop-n in let a = c.args in let v = p.invariant in let z : 0 < p.n = c.loop-n-test.true in
-    record { finish_ok = (λ fs sp fp lo r b. next_stay a.l (finish_ops fs a.start.pos a.out.now sp fp) p.out p.work p.n p.st z (v.every fs sp fp lo r b) c.close.new.out c.close.new.work c.close.result c.close.ensures.close_ok c.in-Stay.x c.in-Stay.is z); same_from = from_trans (8 * a.l) a.out.now p.out c.close.new.out v.from_out c.close.ensures.same_from; same_from_2 = from_trans (a.l + 3 * a.height) a.work.now p.work c.close.new.work v.from_work
-            (from_more (a.l + 3 * (p.n - 1) + 3) (a.l + 3 * a.height) p.work c.close.new.work (omega (arith, v.n_in)) c.close.ensures.same_from_2) }
+returns-in-Stay c = let p = c.loop-n in let a = c.args in let v = p.invariant in let z : 0 < p.n = c.loop-n-test.true in
+    record {
+      finish_ok = (λ fs sp fp lo r b. next_stay a.l (finish_ops fs a.start.pos a.out.now sp fp) p.out p.work p.n p.st z (v.every fs sp fp lo r b) c.close.new.out c.close.new.work c.close.result c.close.ensures.close_ok c.in-Stay.x c.in-Stay.is z);
+      same_from = from_trans (8 * a.l) a.out.now p.out c.close.new.out v.from_out c.close.ensures.same_from;
+      same_from_2 = from_trans (a.l + 3 * a.height) a.work.now p.work c.close.new.work v.from_work
+          (from_more (a.l + 3 * (p.n - 1) + 3) (a.l + 3 * a.height) p.work c.close.new.work (omega (arith, v.n_in)) c.close.ensures.same_from_2);
+    }
 
 pub returns-in-Far : goal.returns-in-Far
-returns-in-Far c =  let p = c.loop-n in let a = c.args in let v = p.invariant in let z : 0 < p.n = omega arith in
-    record { finish_ok = (λ fs sp fp lo r b. next_far a.l (finish_ops fs a.start.pos a.out.now sp fp) p.out p.work p.n p.st z (v.every fs sp fp lo r b) c.close.new.out c.close.new.work c.close.result c.close.ensures.close_ok c.in-Far.is); same_from = from_trans (8 * a.l) a.out.now p.out c.close.new.out v.from_out c.close.ensures.same_from; same_from_2 = from_trans (a.l + 3 * a.height) a.work.now p.work c.close.new.work v.from_work
-            (from_more (a.l + 3 * (p.n - 1) + 3) (a.l + 3 * a.height) p.work c.close.new.work (omega (arith, v.n_in)) c.close.ensures.same_from_2) }
+returns-in-Far c = let p = c.loop-n in let a = c.args in let v = p.invariant in let z : 0 < p.n = omega arith in
+    record {
+      finish_ok = (λ fs sp fp lo r b. next_far a.l (finish_ops fs a.start.pos a.out.now sp fp) p.out p.work p.n p.st z (v.every fs sp fp lo r b) c.close.new.out c.close.new.work c.close.result c.close.ensures.close_ok c.in-Far.is);
+      same_from = from_trans (8 * a.l) a.out.now p.out c.close.new.out v.from_out c.close.ensures.same_from;
+      same_from_2 = from_trans (a.l + 3 * a.height) a.work.now p.work c.close.new.work v.from_work
+          (from_more (a.l + 3 * (p.n - 1) + 3) (a.l + 3 * a.height) p.work c.close.new.work (omega (arith, v.n_in)) c.close.ensures.same_from_2);
+    }
 
 pub returns : goal.returns
-returns c =  let p = c.loop-n in let a = c.args in let v = p.invariant in
+returns c = let p = c.loop-n in let a = c.args in let v = p.invariant in
     record { finish_ok = (λ fs sp fp lo r b. bottom a.l (finish_ops fs a.start.pos a.out.now sp fp) p.out p.work p.n p.st (omega arith) (v.every fs sp fp lo r b)); same_from = v.from_out; same_from_2 = v.from_work }

@@ -8,7 +8,6 @@ use Rattle.patches.specs.Rel.{Frame, Rel, owed}
 use Rattle.patches.specs.Finish.{finish_ops}
 use Rattle.patches.specs.Same.{SameFrom}
 use Rattle.patches.proofs.Finishes.{Now}
-use Prim.Native.Nat.{◌-◌}
 use Rattle.patches.proofs.finish.Given as goal
 
 pub record Inv (o₀ w₀ : List ℕ) (l height : ℕ) (st₀ : Patches) (o : List ℕ) (n : ℕ) (st : Patches) (w : List ℕ) : Type 0 where

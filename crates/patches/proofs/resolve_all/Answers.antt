@@ -1,12 +1,10 @@
-use Prim.Native.Nat.{ℕ, ◌≤◌, ◌-◌, ◌*◌}
-use mathlib.Core.Path.{◌≡◌, refl, ◌∙◌}
-use mathlib.Core.List.{List}
+use Prim.Native.Nat.{◌≤◌, ◌-◌}
+use mathlib.Core.Path.{refl, ◌∙◌}
 use native.Mathlib.Omega.{arith}
-use lib.ListN.{length, get_or}
-use Rattle.patches.specs.Chain.{Descends, chain_of, resolved, reach}
+use lib.ListN.{get_or}
+use Rattle.patches.specs.Chain.{resolved, reach}
 use Rattle.patches.proofs.Chains.{resolved_look, reach_look, resolved_far, reach_far, chain_none}
 use Rattle.patches.proofs.resolve_all.Goals as goal
-
 
 pub loop-h-init : goal.loop-h-init
 loop-h-init c = record { descends = c.requires.descends; all_links = c.requires.l_in_bounds.0; in_links = c.requires.l_in_bounds.1; in_target = c.requires.l_in_bounds.2; all_out = c.requires.l_in_bounds.3; out_len = refl; says_out = refl; says_reach = refl }
@@ -15,7 +13,7 @@ pub overflow_sub-distance : goal.overflow_sub-distance
 overflow_sub-distance c = omega arith
 
 pub returns-then-distance-gt32767 : goal.returns-then-distance-gt32767
-returns-then-distance-gt32767 c =  let l = c.loop-h in let a = c.args in let ls = a.work.now in
+returns-then-distance-gt32767 c = let l = c.loop-h in let a = c.args in let ls = a.work.now in
     record { value = rw (l.invariant.says_reach, reach_far a.target a.l ls l.out l.h l.invariant.descends (omega arith) (omega arith) (omega arith)); out_after = rw (l.invariant.says_out, resolved_far a.target a.l ls l.out l.h l.invariant.descends (omega arith) (omega arith) (omega arith)) }
 
 pub overflow_sub-p : goal.overflow_sub-p
@@ -53,5 +51,5 @@ loop-h-preserved c = let l = c.loop-h in let a = c.args in let ls = a.work.now i
 
 pub returns : goal.returns
 unfolding resolved reach
-returns c =  let l = c.loop-h in let z = chain_none c.args.work.now l.h (omega arith) in
+returns c = let l = c.loop-h in let z = chain_none c.args.work.now l.h (omega arith) in
     record { value = rw (l.invariant.says_reach, z); out_after = rw (l.invariant.says_out, z) }

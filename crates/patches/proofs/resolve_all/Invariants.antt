@@ -4,7 +4,6 @@ use mathlib.Core.Path.{◌≡◌}
 use mathlib.Core.List.{List}
 use lib.ListN.{length}
 use Rattle.patches.specs.Chain.{Descends, chain_of, resolved, reach}
-use Prim.Native.Nat.{◌-◌}
 use Rattle.patches.proofs.resolve_all.Given as goal
 
 pub record Inv (out₀ work : List ℕ) (l head target : ℕ) (out : List ℕ) (h : ℕ) : Type 0 where

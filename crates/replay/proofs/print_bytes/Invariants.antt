@@ -4,7 +4,7 @@ use lib.ListN.{length}
 use Rattle.replay.proofs.print_bytes.Given as goal
 
 abbrev pub invariant-loop-i : goal.invariant-loop-i
-invariant-loop-i l = i ≤ length l.bytes
+invariant-loop-i g l = l.i ≤ length l.bytes
 
 abbrev pub decreases-loop-i : goal.decreases-loop-i
-decreases-loop-i l = length l.bytes - i
+decreases-loop-i g l = length l.bytes - l.i

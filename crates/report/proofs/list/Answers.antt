@@ -14,26 +14,22 @@ use Rattle.report.proofs.list.Goals as goal
 rest-is : (s : List ℕ) → take (length s - 2) (drop 2 s) ≡ drop 2 s
 rest-is s = take_all (length s - 2) (drop 2 s) (omega (arith, length-drop 2 s))
 
--- the clauses, each by its name
-of_pair_output_after : {A B : Type 0} → A × B → record { output_after : A; work_after : B }
-of_pair_output_after p = record { output_after = p.0; work_after = p.1 }
-
 pub returns-then-input-lt2 : goal.returns-then-input-lt2
 unfolding listed output_after work_after
-returns-then-input-lt2 c = of_pair_output_after (rw (lt-ltb _ _ c.if-input-lt2.true) (refl, refl))
+returns-then-input-lt2 g c = rw (lt-ltb _ _ c.if-input-lt2.true) (record { output_after = refl; work_after = refl })
 
 pub returns-then-link-gt2 : goal.returns-then-link-gt2
 unfolding listed output_after work_after
-returns-then-link-gt2 c = of_pair_output_after (rw (le-ltb _ _ c.if-input-lt2.false, lt-ltb _ _ c.if-link-gt2.true) (refl, refl))
+returns-then-link-gt2 g c = rw (le-ltb _ _ c.if-input-lt2.false, lt-ltb _ _ c.if-link-gt2.true) (record { output_after = refl; work_after = refl })
 
 pub returns-then-mode-gt1 : goal.returns-then-mode-gt1
 unfolding listed output_after work_after
-returns-then-mode-gt1 c = of_pair_output_after (rw (le-ltb _ _ c.if-input-lt2.false, le-ltb _ _ c.if-link-gt2.false, lt-ltb _ _ c.if-mode-gt1.true) (refl, refl))
+returns-then-mode-gt1 g c = rw (le-ltb _ _ c.if-input-lt2.false, le-ltb _ _ c.if-link-gt2.false, lt-ltb _ _ c.if-mode-gt1.true) (record { output_after = refl; work_after = refl })
 
 pub returns-then-input-gt65538 : goal.returns-then-input-gt65538
 unfolding listed output_after work_after
-returns-then-input-gt65538 c = of_pair_output_after (rw (le-ltb _ _ c.if-input-lt2.false, le-ltb _ _ c.if-link-gt2.false, le-ltb _ _ c.if-mode-gt1.false, lt-ltb _ _ c.if-input-gt65538.true) (refl, refl))
+returns-then-input-gt65538 g c = rw (le-ltb _ _ c.if-input-lt2.false, le-ltb _ _ c.if-link-gt2.false, le-ltb _ _ c.if-mode-gt1.false, lt-ltb _ _ c.if-input-gt65538.true) (record { output_after = refl; work_after = refl })
 
 pub returns : goal.returns
 unfolding listed
-returns c = of_pair_output_after (rw (le-ltb _ _ c.if-input-lt2.false, le-ltb _ _ c.if-link-gt2.false, le-ltb _ _ c.if-mode-gt1.false, le-ltb _ _ c.if-input-gt65538.false) (rw (rest-is c.args.input.now) at c.report.ensures))
+returns g c = rw (le-ltb _ _ c.if-input-lt2.false, le-ltb _ _ c.if-link-gt2.false, le-ltb _ _ c.if-mode-gt1.false, le-ltb _ _ c.if-input-gt65538.false) (rw (rest-is c.args.input.now) at c.report.ensures)

@@ -1,4 +1,4 @@
-use Prim.Native.Nat.{ℕ, ◌+◌, ◌-◌}
+use Prim.Native.Nat.{ℕ, ◌+◌}
 use mathlib.Core.Path.{refl, ap, ◌∙◌}
 use mathlib.Core.Logic.{inl, inr}
 use native.Mathlib.Omega.{arith}
@@ -26,19 +26,19 @@ side_end-end-requires c = let a = c.args in let l = c.loop-side in
 
 pub loop-i-init : goal.loop-i-init
 loop-i-init c = let a = c.args in let l = c.loop-side in record {
-      made = refl;
-      leads = side_leads a.dir (part a.mode a.link a.addr a.prefix) c.side_length-n.result (c.side_length-n.ensures.by_index a.mode a.link a.addr (net_offset a.link + 8)) a.out.now a.work.now a.st l.out l.work l.x l.side l.invariant (rw c.past_sides-last.ensures.0 at c.loop-side-test.true)
-          c.side_end-end.result c.side_end-end.ensures (check_net6 a.mode a.link a.addr a.prefix c.net_plus-at.result 8 0) (ap (λ (at : ℕ). check_net6 a.mode a.link a.addr a.prefix at 8 0) c.net_plus-at.ensures) c.side_length-n.ensures.upper_bound;
-      i_in = omega arith;
-      out_len = refl;
-      work_len = refl;
-    }
+  made = refl;
+  leads = side_leads a.dir (part a.mode a.link a.addr a.prefix) c.side_length-n.result (c.side_length-n.ensures.by_index a.mode a.link a.addr (net_offset a.link + 8)) a.out.now a.work.now a.st l.out l.work l.x l.side l.invariant (rw c.past_sides-last.ensures.0 at c.loop-side-test.true)
+      c.side_end-end.result c.side_end-end.ensures (check_net6 a.mode a.link a.addr a.prefix c.net_plus-at.result 8 0) (ap (λ (at : ℕ). check_net6 a.mode a.link a.addr a.prefix at 8 0) c.net_plus-at.ensures) c.side_length-n.ensures.upper_bound;
+  i_in = omega arith;
+  out_len = refl;
+  work_len = refl;
+}
 
 pub overflow_mul-start_bit : goal.overflow_mul-start_bit
 overflow_mul-start_bit c = omega (arith, c.loop-i-test.true)
 
 pub check_segment-x-requires : goal.check_segment-x-requires
-check_segment-x-requires c =  let a = c.args in let l = c.loop-side in let m = c.loop-i in
+check_segment-x-requires c = let a = c.args in let l = c.loop-side in let m = c.loop-i in
     record { leads = half_leads a.mode a.link a.addr a.prefix c.net_plus-at.result c.side_end-end.result l.out l.work l.x m.out m.work m.x m.i m.invariant c.loop-i-test.true c.if-prefix_len-start_bit.false; i_bound = (c.loop-i-test.true, c.if-prefix_len-start_bit.false, omega (arith, c.loop-side-test.true, c.past_sides-last.ensures.1, c.net_plus-at.ensures, net_low a.link)) }
 
 pub overflow_add-i : goal.overflow_add-i

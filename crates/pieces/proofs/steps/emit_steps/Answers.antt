@@ -1,4 +1,4 @@
-use Rattle.std.proofs.Common.{◌≡◌, ℕ, suc, ◌+◌, ◌-◌, ◌*◌, ◌<◌, List, ◌∷◌, length, sym, refl, ap, ◌∙◌, subst, arith}
+use Rattle.std.proofs.Common.{◌≡◌, ℕ, suc, ◌+◌, ◌-◌, ◌*◌, ◌<◌, List, ◌∷◌, sym, refl, ap, ◌∙◌, subst, arith}
 use Rattle.ebpf.specs.Insn.{alu32_imm}
 use Rattle.ebpf.specs.declared.insn.Insn.{Insn}
 use Rattle.filter.specs.Record.{step_at}
@@ -42,7 +42,6 @@ whole steps n from =
     let all : n - 0 ≡ n = omega arith in
     let at : from + 0 ≡ from = omega arith in
     rw (all, at)
-
 
 pub loop-i-init : goal.loop-i-init
 loop-i-init c =

@@ -4,7 +4,7 @@ import re
 
 HERE = os.path.dirname(os.path.abspath(__file__))
 ROOT = os.path.dirname(os.path.dirname(HERE))
-CRATES = ["ebpf", "layers", "tree", "filter", "savefile", "checks", "meaning", "nots", "patches", "pieces", "codegen", "generator", "gateway", "capture", "bromaveluth", "report"]
+CRATES = ["ebpf", "layers", "tree", "filter", "savefile", "checks", "meaning", "nots", "patches", "pieces", "codegen", "generator", "gateway", "capture", "bromaveluth", "bromaveluth_c", "report"]
 
 
 class Function:

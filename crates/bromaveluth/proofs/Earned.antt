@@ -5,15 +5,12 @@ use mathlib.Core.List.{List}
 use mathlib.Core.Bool.{Bool, true, false, cond}
 use native.Mathlib.Omega.{arith}
 use lib.Dec.{eqb}
+use Rattle.std.specs.Prelude.{Option, Some, None}
 use Rattle.filter.specs.Record.{step_at}
 use Rattle.filter.specs.declared.ast.LinkType.{LinkType}
-use Rattle.filter.specs.declared.ast.EtherOffset.{EtherOffset}
-use Rattle.filter.specs.declared.ast.EtherOffset.TheVariants.{At, Nowhere}
 use Rattle.filter.specs.Ast.{ether_proto_offset, has_macs}
 use Rattle.filter.specs.declared.ast.Proto as p
 use Rattle.filter.specs.declared.ast.Proto.TheVariants.{Ip, Ip6, Arp, Rarp, Tcp, Udp, Icmp, Icmp6, Igmp, Sctp, Num, Ip6Proto}
-use Rattle.filter.specs.declared.ast.MaybeProto.{MaybeProto}
-use Rattle.filter.specs.declared.ast.MaybeProto.TheVariants.{NoProto, SomeProto}
 use Rattle.filter.specs.declared.ast.ArithOp.{ArithOp}
 use Rattle.filter.specs.declared.ast.ArithOp.TheVariants.{Add, Sub, Mul, Div, Mod, And, Or, Xor, Shl, Shr}
 use Rattle.filter.specs.declared.ast.CmpRhs.{CmpRhs}
@@ -35,9 +32,9 @@ without_ether : (link : LinkType) (n : ℕ) → Most n → Most (unless_ether li
 unfolding unless_ether
 without_ether link n h = go (ether_proto_offset link)
   where
-    go : (e : EtherOffset) → Most (etherless e n)
-    go (At off) = omega arith
-    go Nowhere = h
+    go : (e : Option ℕ) → Most (etherless e n)
+    go (Some off) = omega arith
+    go None = h
 
 without_macs : (link : LinkType) (n : ℕ) → Most n → Most (unless_macs link n)
 unfolding unless_macs
@@ -77,10 +74,10 @@ l4 Sctp = omega arith
 l4 (Num n) = omega arith
 l4 (Ip6Proto n) = omega arith
 
-port : (x : MaybeProto) → Most (port_refusal x)
+port : (x : Option p.Proto) → Most (port_refusal x)
 unfolding port_refusal
-port NoProto = omega arith
-port (SomeProto x) = l4 x
+port None = omega arith
+port (Some x) = l4 x
 
 op : (x : ArithOp) (n : ℕ) → Most (op_refusal x n)
 unfolding op_refusal

@@ -7,6 +7,8 @@ use native.Mathlib.Omega.{arith}
 use borrow.Author.Tests.{ltb-true, eqb-false}
 use lib.Dec.{eqb, ltb}
 use lib.ListN.{length}
+use Rattle.std.specs.Prelude.{Option, Some, None}
+use Rattle.filter.specs.declared.sheet.Counts.{Counts}
 use Rattle.ebpf.specs.declared.insn.Insn.{Insn}
 use Rattle.tree.specs.Tree.{Tree, depth, tree_of}
 use Rattle.tree.specs.Tree.Tree.{leaf, and, or, inv}
@@ -15,8 +17,6 @@ use Rattle.filter.specs.First.{first}
 use Rattle.filter.specs.Record.{decode_at}
 use Rattle.filter.specs.Sheet.{sections_of, steps_part, prims_part, tokens_part}
 use Rattle.filter.specs.declared.ast.LinkType.{LinkType}
-use Rattle.filter.specs.declared.sheet.Sections.{Sections}
-use Rattle.filter.specs.declared.sheet.Sections.TheVariants.{Found, Wrong}
 use Rattle.filter.proofs.Firsts.{first_passes}
 use Rattle.checks.specs.Check.{far_offset, shift_at, lowest_wrong, complete, check_accesses, check_parts, check_sections, check_of, steps_before}
 use Rattle.checks.specs.Refusal.{refusal, refusal_at}
@@ -93,10 +93,11 @@ parts link steps prims tokens a b c =
     either Checks (ltb (lowest_wrong steps prims tokens a b c) (5 * a + 24 * b + c + 6)) (checked.Refused 3 (lowest_wrong steps prims tokens a b c)) (cond (complete prims tokens a b) (check_accesses link steps prims a b c) (checked.Refused 4 0)) (λ e. (omega arith, omega arith))
     (λ e. either Checks (complete prims tokens a b) (check_accesses link steps prims a b c) (checked.Refused 4 0) (λ e. accesses link steps prims a b c) (λ e. (omega arith, omega arith)))
 
-sections : (link : LinkType) (s : List ℕ) (x : Sections) → Checks (check_sections link s x)
+sections : (link : LinkType) (s : List ℕ) (x : Option Counts) → Checks (check_sections link s x)
 unfolding check_sections
-sections link s (Found a b c) = parts link (steps_part s a) (prims_part s a b) (tokens_part s a b c) a b c
-sections link s Wrong = (omega arith, omega arith)
+sections link s (Some n) =
+    parts link (steps_part s n.steps) (prims_part s n.steps n.prims) (tokens_part s n.steps n.prims n.tokens) n.steps n.prims n.tokens
+sections link s None = (omega arith, omega arith)
 
 pub checks : (s : List ℕ) (link : ℕ) → Checks (check_of s link)
 unfolding check_of

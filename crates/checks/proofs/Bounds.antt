@@ -7,27 +7,19 @@ use native.Mathlib.Omega.{arith}
 use borrow.Author.Tests.{ltb-true, ltb-false, eqb-true}
 use lib.Dec.{eqb, ltb}
 use lib.ListN.{get_or, take}
+use Rattle.std.specs.Prelude.{Option, Some, None}
+use Rattle.filter.specs.declared.sheet.Counts.{Counts}
 use Rattle.filter.specs.Bytes.{be2}
 use Rattle.filter.specs.Ast.{link_of, ether_proto_offset}
 use Rattle.filter.specs.First.{first}
 use Rattle.filter.specs.Record.{access_at, host_at, host6_at, port_at, range_at, net_at, net6_at, ether_host_at, mpls_at, session_at, len_at, decode_at}
-use Rattle.filter.specs.Sheet.{sections_of, steps_part, prims_part, tokens_part}
-use Rattle.filter.specs.declared.sheet.Sections.{Sections}
-use Rattle.filter.specs.declared.sheet.Sections.TheVariants.{Found, Wrong}
+use Rattle.filter.specs.Sheet.{counts, sections_of, steps_part, prims_part, tokens_part}
 use Rattle.filter.specs.declared.ast.LinkType.{LinkType}
-use Rattle.filter.specs.declared.ast.EtherOffset.{EtherOffset}
-use Rattle.filter.specs.declared.ast.EtherOffset.TheVariants.{At, Nowhere}
 use Rattle.filter.specs.declared.ast.Dir.{Dir}
 use Rattle.filter.specs.declared.ast.Dir.TheVariants.{SrcOrDst, Src, Dst, SrcAndDst}
 use Rattle.filter.specs.declared.ast.Ipv6Net.{Ipv6Net}
 use Rattle.filter.specs.declared.ast.Proto as p
 use Rattle.filter.specs.declared.ast.Proto.TheVariants.{Ip, Ip6, Arp, Rarp, Tcp, Udp, Icmp, Icmp6, Igmp, Sctp, Num, Ip6Proto}
-use Rattle.filter.specs.declared.ast.MaybeProto.{MaybeProto}
-use Rattle.filter.specs.declared.ast.MaybeProto.TheVariants.{NoProto, SomeProto}
-use Rattle.filter.specs.declared.ast.MaybeId.{MaybeId}
-use Rattle.filter.specs.declared.ast.MaybeId.TheVariants.{NoId, SomeId}
-use Rattle.filter.specs.declared.ast.MaybeLabel.{MaybeLabel}
-use Rattle.filter.specs.declared.ast.MaybeLabel.TheVariants.{NoLabel, SomeLabel}
 use Rattle.filter.specs.declared.ast.CmpOp.{CmpOp}
 use Rattle.filter.specs.declared.ast.CmpOp.TheVariants.{Eq, Ne, Lt, Le, Gt, Ge, BitAnd}
 use Rattle.filter.specs.declared.ast.AccessSize.{AccessSize}
@@ -45,8 +37,6 @@ use Rattle.checks.specs.declared.check.Checked.TheVariants.{Refused, Good}
 use Rattle.checks.specs.Measure.{measured, measure_of}
 use Rattle.checks.specs.declared.measure.Measured.TheVariants.{Length}
 use Rattle.tree.specs.Shape.{shape_of}
-use Rattle.tree.specs.declared.Shape.{Shape}
-use Rattle.tree.specs.declared.Shape.TheVariants.{Whole, Broken}
 
 -- the steps that a primitive takes
 steps_of : Primitive → ℕ
@@ -74,9 +64,9 @@ steps_of Inbound = 0
 steps_of Outbound = 0
 steps_of (ByteAccess x) = x.steps
 
-by_ether_le : (e : EtherOffset) (n m : ℕ) {most : ℕ} → n ≤ most → m ≤ most → by_ether e n m ≤ most
-by_ether_le (At off) n m h h' = h
-by_ether_le Nowhere n m h h' = h'
+by_ether_le : (e : Option ℕ) (n m : ℕ) {most : ℕ} → n ≤ most → m ≤ most → by_ether e n m ≤ most
+by_ether_le (Some off) n m h h' = h
+by_ether_le None n m h h' = h'
 
 eth_le : (link : LinkType) → ethertype_size link ≤ 6
 unfolding ethertype_size
@@ -105,12 +95,12 @@ net6_le net = go (eqb (clip net.prefix_len % 16) 0) (clip net.prefix_len) (clip_
     go true q h = omega arith
     go false q h = omega arith
 
-l4_le : (proto : MaybeProto) → l4_size proto ≤ 6
+l4_le : (proto : Option p.Proto) → l4_size proto ≤ 6
 unfolding l4_size
-l4_le NoProto = omega arith
-l4_le (SomeProto x) = omega arith
+l4_le None = omega arith
+l4_le (Some x) = omega arith
 
-prereq_le : (link : LinkType) (proto : MaybeProto) → prereq_size link proto ≤ 37
+prereq_le : (link : LinkType) (proto : Option p.Proto) → prereq_size link proto ≤ 37
 unfolding prereq_size
 prereq_le link proto = let h = l4_le proto in by_ether_le (ether_proto_offset link) _ _ (omega arith) (omega arith)
 
@@ -133,15 +123,15 @@ proto_le link Sctp = dual_le link
 proto_le link (Num n) = omega (arith, eth_le link)
 proto_le link (Ip6Proto n) = omega (arith, eth_le link)
 
-id_le : (id : MaybeId) (n : ℕ) → id_size id n ≤ n
+id_le : (id : Option ℕ) (n : ℕ) → id_size id n ≤ n
 unfolding id_size
-id_le NoId n = omega arith
-id_le (SomeId x) n = omega arith
+id_le None n = omega arith
+id_le (Some x) n = omega arith
 
-label_le : (label : MaybeLabel) → label_size label ≤ 7
+label_le : (label : Option ℕ) → label_size label ≤ 7
 unfolding label_size
-label_le NoLabel = omega arith
-label_le (SomeLabel x) = omega arith
+label_le None = omega arith
+label_le (Some x) = omega arith
 
 cmp_le : (op : CmpOp) → cmp_size op ≤ 2
 unfolding cmp_size
@@ -270,10 +260,10 @@ pub record Accepted (link : LinkType) (steps prims tokens : List ℕ) (a b c : �
   pub short : b ≤ first (shift_at steps prims) b 0
 
 -- one whole tree, with as many primitives as there are
-pub whole_shape : (x : Shape) (b : ℕ) → one_tree x b ≡ true → x ≡ Whole b
+pub whole_shape : (x : Option ℕ) (b : ℕ) → one_tree x b ≡ true → x ≡ Some b
 unfolding one_tree
-whole_shape (Whole n) b e = ap Whole (eqb-true n b e)
-whole_shape Broken b e = let never : ◌≡◌ {A = ℕ} 0 1 = cc in absurd (omega arith)
+whole_shape (Some n) b e = ap Some (eqb-true n b e)
+whole_shape None b e = let never : ◌≡◌ {A = ℕ} 0 1 = cc in absurd (omega arith)
 
 pub first_true : (x y : Bool) → x && y ≡ true → x ≡ true
 first_true true y e = refl
@@ -315,7 +305,7 @@ good_parts link steps prims tokens a b c {x} {y} {z} =
 -- none of refusals 1 to 6
 pub record Taken (s : List ℕ) (link a b c : ℕ) : Type 0 where
   pub low : link ≤ 2
-  pub found : sections_of s ≡ Found a b c
+  pub found : sections_of s ≡ Some (counts a b c)
   pub parts : Accepted (link_of link) (steps_part s a) (prims_part s a b) (tokens_part s a b c) a b c
 
 moved : (s : List ℕ) (link : ℕ) {a b c x y z : ℕ} → a ≡ x → b ≡ y → c ≡ z → Taken s link x y z → Taken s link a b c
@@ -328,11 +318,20 @@ pub good : (s : List ℕ) (link : ℕ) {a b c : ℕ} → check_of s link ≡ Goo
 unfolding check_of check_sections
 good s link {a} {b} {c} = on_link (ltb 2 link) refl
   where
-    on_sections : (x : Sections) → link ≤ 2 → sections_of s ≡ x → check_sections (link_of link) s x ≡ Good a b c → Taken s link a b c
-    on_sections (Found x y z) h f e =
-        let g = good_parts (link_of link) (steps_part s x) (prims_part s x y) (tokens_part s x y z) x y z e in
+    on_sections : (x : Option Counts) → link ≤ 2 → sections_of s ≡ x → check_sections (link_of link) s x ≡ Good a b c → Taken s link a b c
+    on_sections (Some n) h f e =
+        let g =
+        good_parts
+        (link_of link)
+        (steps_part s n.steps)
+        (prims_part s n.steps n.prims)
+        (tokens_part s n.steps n.prims n.tokens)
+        n.steps
+        n.prims
+        n.tokens
+        e in
         moved s link g.1 g.2 g.3 (record { low = h; found = f; parts = g.0 })
-    on_sections Wrong h f e = let never : ◌≡◌ {A = ℕ} 0 1 = cc in absurd (omega arith)
+    on_sections None h f e = let never : ◌≡◌ {A = ℕ} 0 1 = cc in absurd (omega arith)
 
     on_link : (t : Bool) → ltb 2 link ≡ t → cond t (Refused 1 0) (check_sections (link_of link) s (sections_of s)) ≡ Good a b c → Taken s link a b c
     on_link true h e = let never : ◌≡◌ {A = ℕ} 0 1 = cc in absurd (omega arith)

@@ -7,12 +7,12 @@ use native.Mathlib.Omega.{arith}
 use borrow.Author.Tests.{ltb-true, ltb-false, le-ltb, eqb-true, eq-eqb}
 use lib.Dec.{eqb, ltb}
 use lib.ListN.{length, get_or}
+use Rattle.std.specs.Prelude.{Option, Some, None}
+use Rattle.filter.specs.declared.sheet.Counts.{Counts}
 use Rattle.filter.specs.Ast.{link_of}
 use Rattle.filter.specs.First.{first}
-use Rattle.filter.specs.Sheet.{sections_of, steps_part, prims_part, tokens_part}
+use Rattle.filter.specs.Sheet.{counts, sections_of, steps_part, prims_part, tokens_part}
 use Rattle.filter.specs.Wrong.{step_wrong, record_wrong, token_wrong}
-use Rattle.filter.specs.declared.sheet.Sections.{Sections}
-use Rattle.filter.specs.declared.sheet.Sections.TheVariants.{Found, Wrong}
 use Rattle.filter.proofs.Firsts.{first_is}
 use Rattle.tree.specs.Shape.{shape_of}
 use Rattle.tree.specs.Tree.{Tree, flat, leaves}
@@ -108,7 +108,7 @@ module _ (steps prims tokens : List ℕ) (a b c : ℕ) where
 
 -- a sheet that is not refused 2 to 4, with these counts
 pub record Sorted (s : List ℕ) (a b c : ℕ) : Type 0 where
-  pub found : sections_of s ≡ Found a b c
+  pub found : sections_of s ≡ Some (counts a b c)
   pub parts : Right (steps_part s a) (prims_part s a b) (tokens_part s a b c) a b c
 
 pub sorted : (s : List ℕ) {a b c : ℕ} → whole_of s ≡ Good a b c → Sorted s a b c
@@ -120,11 +120,19 @@ sorted s {a} {b} {c} = go (sections_of s) refl
         subst (λ (n : ℕ). Sorted s n b c) (sym p)
         (subst (λ (n : ℕ). Sorted s x n c) (sym q) (subst (λ (n : ℕ). Sorted s x y n) (sym r) t))
 
-    go : (x : Sections) → sections_of s ≡ x → whole_sections s x ≡ Good a b c → Sorted s a b c
-    go (Found x y z) f e =
-        let g = good_shape (steps_part s x) (prims_part s x y) (tokens_part s x y z) x y z e in
+    go : (x : Option Counts) → sections_of s ≡ x → whole_sections s x ≡ Good a b c → Sorted s a b c
+    go (Some n) f e =
+        let g =
+        good_shape
+        (steps_part s n.steps)
+        (prims_part s n.steps n.prims)
+        (tokens_part s n.steps n.prims n.tokens)
+        n.steps
+        n.prims
+        n.tokens
+        e in
         moved g.1 g.2 g.3 (record { found = f; parts = g.0 })
-    go Wrong f e = let never : ◌≡◌ {A = ℕ} 0 1 = cc in absurd (omega arith)
+    go None f e = let never : ◌≡◌ {A = ℕ} 0 1 = cc in absurd (omega arith)
 
 pub sorted_whole : (s : List ℕ) {a b c : ℕ} → Sorted s a b c → whole_of s ≡ Good a b c
 unfolding whole_of whole_sections

@@ -1,5 +1,6 @@
 -- Refusals 1 to 6, over the parts of the sheet: the steps, the primitives and the tokens, a, b and c in number.
-use Rattle.std.specs.Prelude.{ℕ, zero, suc, ◌+◌, ◌-◌, ◌*◌, List, Bool, true, false, cond, ◌&&◌, ◌||◌, get_or, eqb, ltb, leb}
+use Rattle.std.specs.Prelude.{ℕ, zero, suc, ◌+◌, ◌-◌, ◌*◌, List, Bool, true, false, cond, ◌&&◌, ◌||◌, get_or, eqb, ltb, leb, Option, Some, None}
+use Rattle.filter.specs.declared.sheet.Counts.{Counts}
 use Rattle.filter.specs.Bytes.{be2}
 use Rattle.filter.specs.Ast.{link_of, net_offset}
 use Rattle.filter.specs.First.{first, any}
@@ -12,11 +13,7 @@ use Rattle.filter.specs.declared.ast.Layer.TheVariants.{Raw, Net, Trans}
 use Rattle.filter.specs.declared.ast.ArithOp.{ArithOp}
 use Rattle.filter.specs.declared.ast.ArithOp.TheVariants.{Add, Sub, Mul, Div, Mod, And, Or, Xor, Shl, Shr}
 use Rattle.filter.specs.declared.ast.ByteAccess.{ByteAccess}
-use Rattle.filter.specs.declared.sheet.Sections.{Sections}
-use Rattle.filter.specs.declared.sheet.Sections.TheVariants.{Found, Wrong}
 use Rattle.tree.specs.Shape.{shape_of}
-use Rattle.tree.specs.declared.Shape.{Shape}
-use Rattle.tree.specs.declared.Shape.TheVariants.{Whole, Broken}
 use Rattle.checks.specs.declared.check.Checked.{Checked}
 use Rattle.checks.specs.declared.check.Checked.TheVariants.{Refused, Good}
 
@@ -45,9 +42,9 @@ steps_before prims zero = 0
 steps_before prims (suc i) = steps_before prims i + takes prims i
 
 -- the tokens are one whole tree, with b primitives
-unfoldable pub one_tree : Shape → ℕ → Bool
-one_tree (Whole leaves) b = eqb leaves b
-one_tree Broken b = false
+unfoldable pub one_tree : Option ℕ → ℕ → Bool
+one_tree (Some leaves) b = eqb leaves b
+one_tree None b = false
 
 -- Refusal 4, if not: "tokens are not one whole tree, or primitives or steps are left over or lacking"
 unfoldable pub complete : List ℕ → List ℕ → ℕ → ℕ → Bool
@@ -107,14 +104,17 @@ unfoldable pub check_parts : LinkType → List ℕ → List ℕ → List ℕ →
 check_parts link steps prims tokens a b c = whole_parts steps prims tokens a b c (check_accesses link steps prims a b c)
 
 -- Refusal 2: "sheet length differs from what its counts ask, or a count is cut"; else its three parts
-unfoldable pub check_sections : LinkType → List ℕ → Sections → Checked
-check_sections link s (Found a b c) = check_parts link (steps_part s a) (prims_part s a b) (tokens_part s a b c) a b c
-check_sections link s Wrong = Refused 2 0
+unfoldable pub check_sections : LinkType → List ℕ → Option Counts → Checked
+check_sections link s (Some n) =
+    check_parts link (steps_part s n.steps) (prims_part s n.steps n.prims) (tokens_part s n.steps n.prims n.tokens) n.steps n.prims n.tokens
+check_sections link s None = Refused 2 0
 
 -- refusals 2 to 4, for which no link is asked
-unfoldable pub whole_sections : List ℕ → Sections → Checked
-whole_sections s (Found a b c) = whole_parts (steps_part s a) (prims_part s a b) (tokens_part s a b c) a b c (Good a b c)
-whole_sections s Wrong = Refused 2 0
+unfoldable pub whole_sections : List ℕ → Option Counts → Checked
+whole_sections s (Some n) =
+    whole_parts (steps_part s n.steps) (prims_part s n.steps n.prims) (tokens_part s n.steps n.prims n.tokens)
+    n.steps n.prims n.tokens (Good n.steps n.prims n.tokens)
+whole_sections s None = Refused 2 0
 
 unfoldable pub whole_of : List ℕ → Checked
 whole_of s = whole_sections s (sections_of s)

@@ -1,22 +1,14 @@
 -- L: "6 plus one for each Or and Not plus the Rust's count for each primitive, 0 for one that earns 11 to 19".
 -- The Rust's counts, function by function of ebpf_codegen.rs: a guarded load of a byte is 4 instructions, of a half or a word 5; a comparison is 1.
-use Rattle.std.specs.Prelude.{ℕ, zero, suc, ◌+◌, ◌*◌, ◌/◌, ◌%◌, List, cond, eqb, ltb, take}
+use Rattle.std.specs.Prelude.{ℕ, zero, suc, ◌+◌, ◌*◌, ◌/◌, ◌%◌, List, cond, eqb, ltb, take, Option, Some, None}
 use Rattle.filter.specs.Ast.{ether_proto_offset}
 use Rattle.filter.specs.Record.{decode_at}
 use Rattle.filter.specs.declared.ast.LinkType.{LinkType}
-use Rattle.filter.specs.declared.ast.EtherOffset.{EtherOffset}
-use Rattle.filter.specs.declared.ast.EtherOffset.TheVariants.{At, Nowhere}
 use Rattle.filter.specs.declared.ast.Dir.{Dir}
 use Rattle.filter.specs.declared.ast.Dir.TheVariants.{SrcOrDst, Src, Dst, SrcAndDst}
 use Rattle.filter.specs.declared.ast.Ipv6Net.{Ipv6Net}
 use Rattle.filter.specs.declared.ast.Proto as p
 use Rattle.filter.specs.declared.ast.Proto.TheVariants.{Ip, Ip6, Arp, Rarp, Tcp, Udp, Icmp, Icmp6, Igmp, Sctp, Num, Ip6Proto}
-use Rattle.filter.specs.declared.ast.MaybeProto.{MaybeProto}
-use Rattle.filter.specs.declared.ast.MaybeProto.TheVariants.{NoProto, SomeProto}
-use Rattle.filter.specs.declared.ast.MaybeId.{MaybeId}
-use Rattle.filter.specs.declared.ast.MaybeId.TheVariants.{NoId, SomeId}
-use Rattle.filter.specs.declared.ast.MaybeLabel.{MaybeLabel}
-use Rattle.filter.specs.declared.ast.MaybeLabel.TheVariants.{NoLabel, SomeLabel}
 use Rattle.filter.specs.declared.ast.CmpOp.{CmpOp}
 use Rattle.filter.specs.declared.ast.CmpOp.TheVariants.{Eq, Ne, Lt, Le, Gt, Ge, BitAnd}
 use Rattle.filter.specs.declared.ast.AccessSize.{AccessSize}
@@ -31,9 +23,9 @@ use Rattle.checks.specs.Check.{steps_before}
 use Rattle.checks.specs.Refusal.{refusal}
 
 -- one number for a link with an ethertype, another for one without
-abbrev pub by_ether : EtherOffset → ℕ → ℕ → ℕ
-by_ether (At off) n m = n
-by_ether Nowhere n m = m
+abbrev pub by_ether : Option ℕ → ℕ → ℕ → ℕ
+by_ether (Some off) n m = n
+by_ether None n m = m
 
 -- emit_ethertype: a half checked, 5 + 1; "RawIp emits nothing for ethertype 0x0800", and refuses the others
 unfoldable pub ethertype_size : LinkType → ℕ
@@ -57,12 +49,12 @@ net6_side net =
     cond (eqb (q % 16) 0) (6 * ((q + 15) / 16)) (6 * ((q + 15) / 16) + 1)
 
 -- emit_l4_proto_check: a byte checked, 4 + 1; with no protocol, compared with 6 and 17
-unfoldable pub l4_size : MaybeProto → ℕ
-l4_size NoProto = 6
-l4_size (SomeProto x) = 5
+unfoldable pub l4_size : Option p.Proto → ℕ
+l4_size None = 6
+l4_size (Some x) = 5
 
 -- emit_port_prereqs: IPv4's part is the protocol check and 12 more (4 load, 5 to R6, 3 guard); with an ethertype 7 before, and IPv6's part of the check, 5 and a JA
-unfoldable pub prereq_size : LinkType → MaybeProto → ℕ
+unfoldable pub prereq_size : LinkType → Option p.Proto → ℕ
 prereq_size link proto = by_ether (ether_proto_offset link) (2 * l4_size proto + 25) (l4_size proto + 12)
 
 -- emit_dual_l4: 5 + 2, a byte checked (5), a JA, a byte checked (5); without an ethertype the last only
@@ -85,14 +77,14 @@ proto_size link (Num n) = ethertype_size link + 5
 proto_size link (Ip6Proto n) = ethertype_size link + 5
 
 -- the instructions that a number adds
-unfoldable pub id_size : MaybeId → ℕ → ℕ
-id_size NoId n = 0
-id_size (SomeId id) n = n
+unfoldable pub id_size : Option ℕ → ℕ → ℕ
+id_size None n = 0
+id_size (Some id) n = n
 
 -- emit_mpls: a word, a shift, a comparison
-unfoldable pub label_size : MaybeLabel → ℕ
-label_size NoLabel = 0
-label_size (SomeLabel label) = 7
+unfoldable pub label_size : Option ℕ → ℕ
+label_size None = 0
+label_size (Some label) = 7
 
 -- emit_cmp: BitAnd is a JSET and a JA
 unfoldable pub cmp_size : CmpOp → ℕ

@@ -1,15 +1,11 @@
 -- Refusals 11 to 19: "Of 10 to 19 the one the Rust meets first is given", inside a primitive; 0 is none.
-use Rattle.std.specs.Prelude.{ℕ, zero, suc, ◌*◌, List, cond, eqb}
+use Rattle.std.specs.Prelude.{ℕ, zero, suc, ◌*◌, List, cond, eqb, Option, Some, None}
 use Rattle.filter.specs.Ast.{ether_proto_offset, has_macs}
 use Rattle.filter.specs.Record.{step_at, decode_at}
 use Rattle.checks.specs.Check.{steps_before}
 use Rattle.filter.specs.declared.ast.LinkType.{LinkType}
-use Rattle.filter.specs.declared.ast.EtherOffset.{EtherOffset}
-use Rattle.filter.specs.declared.ast.EtherOffset.TheVariants.{At, Nowhere}
 use Rattle.filter.specs.declared.ast.Proto as p
 use Rattle.filter.specs.declared.ast.Proto.TheVariants.{Ip, Ip6, Arp, Rarp, Tcp, Udp, Icmp, Icmp6, Igmp, Sctp, Num, Ip6Proto}
-use Rattle.filter.specs.declared.ast.MaybeProto.{MaybeProto}
-use Rattle.filter.specs.declared.ast.MaybeProto.TheVariants.{NoProto, SomeProto}
 use Rattle.filter.specs.declared.ast.ArithOp.{ArithOp}
 use Rattle.filter.specs.declared.ast.ArithOp.TheVariants.{Add, Sub, Mul, Div, Mod, And, Or, Xor, Shl, Shr}
 use Rattle.filter.specs.declared.ast.CmpRhs.{CmpRhs}
@@ -19,9 +15,9 @@ use Rattle.filter.specs.declared.ast.Primitive.{Primitive}
 use Rattle.filter.specs.declared.ast.Primitive.TheVariants.{Host, Host6, Port, PortRange, Net, Net6, Proto, EtherHost, EtherProto, EtherMulticast, IpBroadcast, IpMulticast, Ip6Multicast, Vlan, Mpls, PppoeDiscovery, PppoeSession, IpProtoChain, Ip6ProtoChain, Len, Inbound, Outbound, ByteAccess}
 
 -- 11 and 15, "on RawIp": what is refused where the link has no ethertype
-abbrev pub etherless : EtherOffset → ℕ → ℕ
-etherless (At off) n = 0
-etherless Nowhere n = n
+abbrev pub etherless : Option ℕ → ℕ → ℕ
+etherless (Some off) n = 0
+etherless None n = n
 
 unfoldable pub unless_ether : LinkType → ℕ → ℕ
 unless_ether link n = etherless (ether_proto_offset link) n
@@ -64,9 +60,9 @@ l4_refusal Sctp = 0
 l4_refusal (Num n) = 12
 l4_refusal (Ip6Proto n) = 12
 
-unfoldable pub port_refusal : MaybeProto → ℕ
-port_refusal NoProto = 0
-port_refusal (SomeProto x) = l4_refusal x
+unfoldable pub port_refusal : Option p.Proto → ℕ
+port_refusal None = 0
+port_refusal (Some x) = l4_refusal x
 
 -- 18: "division by 0"; 19: "Mod"
 unfoldable pub op_refusal : ArithOp → ℕ → ℕ

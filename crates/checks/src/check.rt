@@ -6,12 +6,12 @@ ghost use Rattle.tree.specs.Shape.{shape_of};
 ghost use Rattle.checks.specs.Check.{takes, steps_before, one_tree, complete, base_of, far, far_offset, shifts, big_shift, shift_at, lowest_wrong, check_accesses, check_parts, check_sections, whole_parts, whole_of, check_of, check_mode_of};
 ghost use Rattle.checks.specs.declared.check.Checked.TheVariants.{Good};
 
-use filter::ast::{ArithOp, ByteAccess, Layer, LinkType, link_of, net_offset};
+use filter::ast::{ArithOp, ByteAccess, Layer, LinkType, link_of};
 use filter::bytes::{record_half, record_kind};
 use filter::record::{access_at, step_at};
-use filter::sheet::{Sections, find_sections};
+use filter::sheet::find_sections;
 use filter::wrong::{first_wrong_record, first_wrong_step, first_wrong_token};
-use tree::{Shape, whole_tree};
+use tree::whole_tree;
 
 #[derive(Clone, Copy)]
 pub enum Checked {
@@ -48,8 +48,8 @@ fn one_tree(tokens: &[u8], n: u16) -> bool
     ensures { result ≡ one_tree (shape_of tokens.now) n }
 {
     match whole_tree(tokens) {
-        Shape::Whole { leaves } => leaves == (n as usize),
-        Shape::Broken => false,
+        Some(leaves) => leaves == (n as usize),
+        None => false,
     }
 }
 
@@ -69,7 +69,7 @@ fn base_of(link: LinkType, layer: Layer) -> u32
 {
     match layer {
         Layer::Raw => 0,
-        Layer::Net => net_offset(link),
+        Layer::Net => link.net_offset(),
         Layer::Trans => 0,
     }
 }
@@ -263,31 +263,20 @@ fn check_sections(link: LinkType, sheet: &[u8]) -> Checked
     ensures { result ≡ check_sections link sheet.now (sections_of sheet.now) }
 {
     match find_sections(sheet) {
-        Sections::Wrong => Checked::Refused {
+        None => Checked::Refused {
             number: 2,
             place: 0,
         },
-        Sections::Found {
-            steps,
-            prims,
-            tokens,
-        } => {
-            let x = 5 * (steps as usize);
-            let y = x + 24 * (prims as usize);
-            let z = y + (tokens as usize);
-            let a = x + 2;
-            let p = x + 4;
-            let b = y + 4;
-            let t = y + 6;
-            let c = z + 6;
+        Some(n) => {
+            let parts = n.sections(sheet);
             check_parts(
                 link,
-                &sheet[2..a],
-                &sheet[p..b],
-                &sheet[t..c],
-                steps,
-                prims,
-                tokens,
+                parts.steps,
+                parts.prims,
+                parts.tokens,
+                n.steps,
+                n.prims,
+                n.tokens,
             )
         }
     }
@@ -298,30 +287,19 @@ pub fn check_whole(sheet: &[u8]) -> Checked
     ensures { result ≡ whole_of sheet.now }
 {
     match find_sections(sheet) {
-        Sections::Wrong => Checked::Refused {
+        None => Checked::Refused {
             number: 2,
             place: 0,
         },
-        Sections::Found {
-            steps,
-            prims,
-            tokens,
-        } => {
-            let x = 5 * (steps as usize);
-            let y = x + 24 * (prims as usize);
-            let z = y + (tokens as usize);
-            let a = x + 2;
-            let p = x + 4;
-            let b = y + 4;
-            let t = y + 6;
-            let c = z + 6;
+        Some(n) => {
+            let parts = n.sections(sheet);
             check_shape(
-                &sheet[2..a],
-                &sheet[p..b],
-                &sheet[t..c],
-                steps,
-                prims,
-                tokens,
+                parts.steps,
+                parts.prims,
+                parts.tokens,
+                n.steps,
+                n.prims,
+                n.tokens,
             )
         }
     }

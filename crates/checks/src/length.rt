@@ -7,19 +7,16 @@ ghost use Rattle.checks.specs.Length.{ethertype_size, sides, clip, net6_side, l4
 
 use crate::check::takes_steps;
 use crate::refusal::refusal_of;
-use filter::ast::{
-    AccessSize, ByteAccess, CmpOp, Dir, EtherOffset, Ipv6Net, Layer, LinkType, MaybeId, MaybeLabel,
-    MaybeProto, Primitive, Proto, ether_proto_offset,
-};
+use filter::ast::{AccessSize, ByteAccess, CmpOp, Dir, Ipv6Net, Layer, LinkType, Primitive, Proto};
 use filter::bytes::token_at;
 use filter::record::primitive_at;
 
 fn ethertype_size(link: LinkType) -> u32
     ensures { (result ≡ ethertype_size link) × (result ≤ 6) }
 {
-    match ether_proto_offset(link) {
-        EtherOffset::At(_) => 6,
-        EtherOffset::Nowhere => 0,
+    match link.ether_proto_offset() {
+        Some(_) => 6,
+        None => 0,
     }
 }
 
@@ -49,31 +46,31 @@ fn net6_side(net: Ipv6Net) -> u8
     if p % 16 == 0 { whole } else { whole + 1 }
 }
 
-fn l4_size(proto: MaybeProto) -> u32
+fn l4_size(proto: Option<Proto>) -> u32
     ensures { (result ≡ l4_size proto) × (result ≤ 6) }
 {
     match proto {
-        MaybeProto::NoProto => 6,
-        MaybeProto::SomeProto(_) => 5,
+        None => 6,
+        Some(_) => 5,
     }
 }
 
-fn prereq_size(link: LinkType, proto: MaybeProto) -> u32
+fn prereq_size(link: LinkType, proto: Option<Proto>) -> u32
     ensures { (result ≡ prereq_size link proto) × (result ≤ 37) }
 {
     let n = l4_size(proto);
-    match ether_proto_offset(link) {
-        EtherOffset::At(_) => 2 * n + 25,
-        EtherOffset::Nowhere => n + 12,
+    match link.ether_proto_offset() {
+        Some(_) => 2 * n + 25,
+        None => n + 12,
     }
 }
 
 fn dual_size(link: LinkType) -> u32
     ensures { result ≡ dual_size link }
 {
-    match ether_proto_offset(link) {
-        EtherOffset::At(_) => 18,
-        EtherOffset::Nowhere => 5,
+    match link.ether_proto_offset() {
+        Some(_) => 18,
+        None => 5,
     }
 }
 
@@ -97,21 +94,21 @@ fn proto_size(link: LinkType, proto: Proto) -> u32
     }
 }
 
-fn id_size(id: MaybeId, n: u8) -> u32
+fn id_size(id: Option<u16>, n: u8) -> u32
     ensures { (result ≡ id_size id n) × (result ≤ 255) }
 {
     match id {
-        MaybeId::NoId => 0,
-        MaybeId::SomeId(_) => n as u32,
+        None => 0,
+        Some(_) => n as u32,
     }
 }
 
-fn label_size(label: MaybeLabel) -> u32
+fn label_size(label: Option<u32>) -> u32
     ensures { (result ≡ label_size label) × (result ≤ 7) }
 {
     match label {
-        MaybeLabel::NoLabel => 0,
-        MaybeLabel::SomeLabel(_) => 7,
+        None => 0,
+        Some(_) => 7,
     }
 }
 

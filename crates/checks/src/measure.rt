@@ -5,6 +5,7 @@ ghost use Rattle.checks.specs.Measure.{measure_of, admit_of};
 use crate::check::{Checked, check_sheet};
 use crate::length::program_length;
 use filter::ast::link_of;
+use filter::sheet::Counts;
 
 // A refusal with its place, or what the sheet asks.
 #[derive(Clone, Copy)]
@@ -32,19 +33,17 @@ pub fn measure(sheet: &[u8], link: u8) -> Measured
             prims,
             tokens,
         } => {
-            let x = 5 * (steps as usize);
-            let y = x + 24 * (prims as usize);
-            let z = y + (tokens as usize);
-            let a = x + 2;
-            let p = x + 4;
-            let b = y + 4;
-            let t = y + 6;
-            let c = z + 6;
+            let parts = Counts {
+                steps,
+                prims,
+                tokens,
+            }
+            .sections(sheet);
             let length = program_length(
                 link_of(link),
-                &sheet[2..a],
-                &sheet[p..b],
-                &sheet[t..c],
+                parts.steps,
+                parts.prims,
+                parts.tokens,
                 prims,
                 tokens,
             );

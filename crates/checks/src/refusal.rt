@@ -3,25 +3,22 @@ ghost use Rattle.std.specs.Prelude.{◌≡◌, ◌+◌, ◌*◌};
 ghost use Rattle.filter.specs.Record.{step_at};
 ghost use Rattle.checks.specs.Refusal.{unless_ether, unless_macs, ether_refusal, proto_refusal, l4_refusal, port_refusal, op_refusal, step_refusal, steps_refusal, access_refusal, refusal};
 
-use filter::ast::{
-    ArithOp, ByteAccess, CmpRhs, EtherOffset, LinkType, MaybeProto, Primitive, Proto,
-    ether_proto_offset, has_macs,
-};
+use filter::ast::{ArithOp, ByteAccess, CmpRhs, LinkType, Primitive, Proto};
 use filter::record::step_at;
 
 fn unless_ether(link: LinkType, n: u8) -> u8
     ensures { result ≡ unless_ether link n }
 {
-    match ether_proto_offset(link) {
-        EtherOffset::At(_) => 0,
-        EtherOffset::Nowhere => n,
+    match link.ether_proto_offset() {
+        Some(_) => 0,
+        None => n,
     }
 }
 
 fn unless_macs(link: LinkType, n: u8) -> u8
     ensures { result ≡ unless_macs link n }
 {
-    if has_macs(link) { 0 } else { n }
+    if link.has_macs() { 0 } else { n }
 }
 
 fn ether_refusal(link: LinkType, et: u16) -> u8
@@ -72,12 +69,12 @@ fn l4_refusal(proto: Proto) -> u8
     }
 }
 
-fn port_refusal(proto: MaybeProto) -> u8
+fn port_refusal(proto: Option<Proto>) -> u8
     ensures { result ≡ port_refusal proto }
 {
     match proto {
-        MaybeProto::NoProto => 0,
-        MaybeProto::SomeProto(p) => l4_refusal(p),
+        None => 0,
+        Some(p) => l4_refusal(p),
     }
 }
 

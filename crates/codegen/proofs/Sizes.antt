@@ -8,6 +8,7 @@ use borrow.Author.Tests.{le-leb, lt-leb, leb-true, leb-false, ltb-true, ltb-fals
 use native.Mathlib.Nat.{le_refl, sub-zero}
 use lib.ListN.{length, length-append}
 use lib.Dec.{eqb, leb, ltb}
+use Rattle.std.specs.Prelude.{Option, Some, None}
 use Rattle.patches.specs.Code.{Slot}
 use Rattle.pieces.proofs.Leading.{settled_length}
 use Rattle.pieces.specs.Fragments.{one_of, sides, guard, load, emit_load, emit_steps, transport, fails, skips, succeeds, check, emit_cmp, ethertype_at_code, emit_ethertype, emit_ip4_l4, emit_ip6_l4, dual_at, emit_dual_l4}
@@ -16,8 +17,6 @@ use Rattle.checks.specs.Length as count
 use Rattle.checks.specs.Refusal.{refusal, etherless, unless_ether, ether_refusal, steps_refusal, access_refusal, rhs_refusal}
 use Rattle.filter.specs.Ast.{ether_proto_offset}
 use Rattle.filter.specs.declared.ast.LinkType.{LinkType}
-use Rattle.filter.specs.declared.ast.EtherOffset.{EtherOffset}
-use Rattle.filter.specs.declared.ast.EtherOffset.TheVariants.{At, Nowhere}
 use Rattle.filter.specs.declared.ast.Dir.{Dir}
 use Rattle.filter.specs.declared.ast.Dir.TheVariants.{SrcOrDst, Src, Dst, SrcAndDst}
 use Rattle.filter.specs.declared.ast.Ipv6Addr.{Ipv6Addr}
@@ -31,12 +30,6 @@ use Rattle.filter.specs.declared.ast.Primitive.{Primitive}
 use Rattle.filter.specs.declared.ast.Primitive.TheVariants.{Host, Host6, Port, PortRange, Net, Net6, Proto, EtherHost, EtherProto, EtherMulticast, IpBroadcast, IpMulticast, Ip6Multicast, Vlan, Mpls, PppoeDiscovery, PppoeSession, IpProtoChain, Ip6ProtoChain, Len, Inbound, Outbound, ByteAccess}
 use Rattle.filter.specs.declared.ast.Proto as protos
 use Rattle.filter.specs.declared.ast.Proto.TheVariants.{Ip, Ip6, Arp, Rarp, Tcp, Udp, Icmp, Icmp6, Igmp, Sctp, Num, Ip6Proto}
-use Rattle.filter.specs.declared.ast.MaybeProto.{MaybeProto}
-use Rattle.filter.specs.declared.ast.MaybeProto.TheVariants.{NoProto, SomeProto}
-use Rattle.filter.specs.declared.ast.MaybeId.{MaybeId}
-use Rattle.filter.specs.declared.ast.MaybeId.TheVariants.{NoId, SomeId}
-use Rattle.filter.specs.declared.ast.MaybeLabel.{MaybeLabel}
-use Rattle.filter.specs.declared.ast.MaybeLabel.TheVariants.{NoLabel, SomeLabel}
 use Rattle.filter.specs.declared.ast.Ipv6Net.{Ipv6Net}
 use Rattle.filter.specs.declared.ast.AccessSize.{AccessSize}
 use Rattle.filter.specs.declared.ast.AccessSize.TheVariants.{Byte, Half, Word}
@@ -88,9 +81,9 @@ module _ (mode : ℕ) where
   unfolding emit_ethertype check emit_load guard load fails count.ethertype_size
   ethertype_length link et = go (ether_proto_offset link)
     where
-      go : (e : EtherOffset) → length (ethertype_at_code mode e et) ≡ count.by_ether e 6 0
-      go (At off) = refl
-      go Nowhere = refl
+      go : (e : Option ℕ) → length (ethertype_at_code mode e et) ≡ count.by_ether e 6 0
+      go (Some off) = refl
+      go None = refl
 
   -- What comes after the ethertype.
   after_ethertype : (link : LinkType) (et n : ℕ) (xs : List Slot) → length xs ≡ n
@@ -191,16 +184,16 @@ module _ (mode : ℕ) where
   unfolding emit_net6
   host6_length link addr dir = after_ethertype link _ _ _ (sides_length dir _ _ _ (host6_side link addr _) (host6_side link addr _))
 
-  prereqs_length : (link : LinkType) (proto : MaybeProto) → length (emit_port_prereqs mode link proto) ≡ count.prereq_size link proto
+  prereqs_length : (link : LinkType) (proto : Option protos.Proto) → length (emit_port_prereqs mode link proto) ≡ count.prereq_size link proto
   unfolding emit_port_prereqs prereqs_v4 prereqs_v6 emit_l4_proto_check transport check emit_load guard load fails skips count.prereq_size count.l4_size
   prereqs_length link proto = go (ether_proto_offset link) proto
     where
-      go : (e : EtherOffset) (proto : MaybeProto)
+      go : (e : Option ℕ) (proto : Option protos.Proto)
           → length (prereqs_at mode link e proto) ≡ count.by_ether e (2 * count.l4_size proto + 25) (count.l4_size proto + 12)
-      go (At off) NoProto = refl
-      go (At off) (SomeProto x) = refl
-      go Nowhere NoProto = refl
-      go Nowhere (SomeProto x) = refl
+      go (Some off) None = refl
+      go (Some off) (Some x) = refl
+      go None None = refl
+      go None (Some x) = refl
 
   ports_length : (link : LinkType) (port : ℕ) (dir : Dir) → length (check_ports mode link port dir) ≡ count.sides dir 3 0
   unfolding check_ports check_port load fails succeeds count.sides
@@ -209,7 +202,7 @@ module _ (mode : ℕ) where
   ports_length link port Dst = refl
   ports_length link port SrcAndDst = refl
 
-  port_length : (link : LinkType) (port : ℕ) (dir : Dir) (proto : MaybeProto)
+  port_length : (link : LinkType) (port : ℕ) (dir : Dir) (proto : Option protos.Proto)
       → length (emit_port mode link port dir proto) ≡ count.prereq_size link proto + count.sides dir 3 0
   unfolding emit_port
   port_length link port dir proto = simp (length-append, prereqs_length link proto, ports_length link port dir)
@@ -218,7 +211,7 @@ module _ (mode : ℕ) where
   unfolding check_range load fails
   range_length link off lo hi = refl
 
-  portrange_length : (link : LinkType) (lo hi : ℕ) (dir : Dir) (proto : MaybeProto)
+  portrange_length : (link : LinkType) (lo hi : ℕ) (dir : Dir) (proto : Option protos.Proto)
       → length (emit_portrange mode link lo hi dir proto) ≡ count.prereq_size link proto + count.sides dir 4 1
   unfolding emit_portrange
   portrange_length link lo hi dir proto =
@@ -245,9 +238,9 @@ module _ (mode : ℕ) where
   unfolding emit_dual_l4 emit_ip4_l4 emit_ethertype check emit_load guard load fails skips count.dual_size
   dual_length link p = go (ether_proto_offset link) refl
     where
-      go : (e : EtherOffset) → ether_proto_offset link ≡ e → length (dual_at mode e link p) ≡ count.by_ether e 18 5
-      go (At off) q = refl
-      go Nowhere q = rw q
+      go : (e : Option ℕ) → ether_proto_offset link ≡ e → length (dual_at mode e link p) ≡ count.by_ether e 18 5
+      go (Some off) q = refl
+      go None q = rw q
 
   check_length : (off k : ℕ) → length (check mode Byte off k) ≡ 5
   unfolding check emit_load guard load fails
@@ -277,32 +270,32 @@ module _ (mode : ℕ) where
   proto_length link (Ip6Proto n) = ip6_length link _
 
   -- Where there is no ethertype these three are refused.
-  vlan_length : (link : LinkType) (id : MaybeId) → ether_refusal link 0x8100 ≡ 0 → length (emit_vlan mode link id) ≡ count.ethertype_size link + count.id_size id 7
+  vlan_length : (link : LinkType) (id : Option ℕ) → ether_refusal link 0x8100 ≡ 0 → length (emit_vlan mode link id) ≡ count.ethertype_size link + count.id_size id 7
   unfolding emit_vlan emit_load guard load fails count.id_size ether_refusal unless_ether
   vlan_length link id r = after_ethertype link _ _ _ (go (ether_proto_offset link) id r)
     where
-      go : (e : EtherOffset) (id : MaybeId) → etherless e 11 ≡ 0 → length (vlan_id mode link e id) ≡ count.id_size id 7
-      go (At off) NoId r = refl
-      go (At off) (SomeId n) r = refl
-      go Nowhere id r = absurd (omega arith)
+      go : (e : Option ℕ) (id : Option ℕ) → etherless e 11 ≡ 0 → length (vlan_id mode link e id) ≡ count.id_size id 7
+      go (Some off) None r = refl
+      go (Some off) (Some n) r = refl
+      go None id r = absurd (omega arith)
 
-  pppoe_length : (link : LinkType) (id : MaybeId) → ether_refusal link 0x8864 ≡ 0 → length (emit_pppoe_session mode link id) ≡ count.ethertype_size link + count.id_size id 6
+  pppoe_length : (link : LinkType) (id : Option ℕ) → ether_refusal link 0x8864 ≡ 0 → length (emit_pppoe_session mode link id) ≡ count.ethertype_size link + count.id_size id 6
   unfolding emit_pppoe_session check emit_load guard load fails count.id_size ether_refusal unless_ether
   pppoe_length link id r = after_ethertype link _ _ _ (go (ether_proto_offset link) id r)
     where
-      go : (e : EtherOffset) (id : MaybeId) → etherless e 11 ≡ 0 → length (session_id mode link e id) ≡ count.id_size id 6
-      go (At off) NoId r = refl
-      go (At off) (SomeId n) r = refl
-      go Nowhere id r = absurd (omega arith)
+      go : (e : Option ℕ) (id : Option ℕ) → etherless e 11 ≡ 0 → length (session_id mode link e id) ≡ count.id_size id 6
+      go (Some off) None r = refl
+      go (Some off) (Some n) r = refl
+      go None id r = absurd (omega arith)
 
-  mpls_length : (link : LinkType) (label : MaybeLabel) → unless_ether link 15 ≡ 0 → length (emit_mpls mode link label) ≡ 7 + count.label_size label
+  mpls_length : (link : LinkType) (label : Option ℕ) → unless_ether link 15 ≡ 0 → length (emit_mpls mode link label) ≡ 7 + count.label_size label
   unfolding emit_mpls emit_load guard load fails skips count.label_size unless_ether
   mpls_length link label r = go (ether_proto_offset link) label r
     where
-      go : (e : EtherOffset) (label : MaybeLabel) → etherless e 15 ≡ 0 → length (mpls_at mode link e label) ≡ 7 + count.label_size label
-      go (At off) NoLabel r = refl
-      go (At off) (SomeLabel n) r = refl
-      go Nowhere label r = absurd (omega arith)
+      go : (e : Option ℕ) (label : Option ℕ) → etherless e 15 ≡ 0 → length (mpls_at mode link e label) ≡ 7 + count.label_size label
+      go (Some off) None r = refl
+      go (Some off) (Some n) r = refl
+      go None label r = absurd (omega arith)
 
   multicast_length : (link : LinkType) → length (emit_ether_multicast mode link) ≡ 6
   unfolding emit_ether_multicast emit_load guard load skips

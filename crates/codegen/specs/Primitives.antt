@@ -1,5 +1,5 @@
 -- The code of each primitive, function by function of ebpf_codegen.rs: host, net, port, MAC, tags, length, byte access.
-use Rattle.std.specs.Prelude.{ℕ, zero, suc, ◌+◌, ◌-◌, ◌*◌, ◌/◌, ◌%◌, ◌^◌, List, [], ◌∷◌, ◌++◌, cond, eqb, leb, ltb}
+use Rattle.std.specs.Prelude.{ℕ, zero, suc, ◌+◌, ◌-◌, ◌*◌, ◌/◌, ◌%◌, ◌^◌, List, [], ◌∷◌, ◌++◌, cond, eqb, leb, ltb, Option, Some, None}
 use Rattle.std.specs.Int.Bits.{bit_and}
 use Rattle.ebpf.specs.Opcode.{ADD, SUB, AND, RSH, MOV, JEQ, JNE, JGT, JLT, JSET}
 use Rattle.ebpf.specs.Insn.{alu64_reg, alu64_imm, alu32_imm, jump_always}
@@ -10,18 +10,10 @@ use Rattle.pieces.specs.Fragments.{emit_ethertype, emit_ip4_l4, emit_ip6_l4, emi
 use Rattle.filter.specs.Prefix.{prefix_mask}
 use Rattle.filter.specs.Ast.{ether_proto_offset, net_offset}
 use Rattle.filter.specs.declared.ast.LinkType.{LinkType}
-use Rattle.filter.specs.declared.ast.EtherOffset.{EtherOffset}
-use Rattle.filter.specs.declared.ast.EtherOffset.TheVariants.{At, Nowhere}
 use Rattle.filter.specs.declared.ast.Dir.{Dir}
 use Rattle.filter.specs.declared.ast.Dir.TheVariants.{SrcOrDst, Src, Dst, SrcAndDst}
 use Rattle.filter.specs.declared.ast.Proto as protos
 use Rattle.filter.specs.declared.ast.Proto.TheVariants.{Ip, Ip6, Arp, Rarp, Tcp, Udp, Icmp, Icmp6, Igmp, Sctp, Num, Ip6Proto}
-use Rattle.filter.specs.declared.ast.MaybeProto.{MaybeProto}
-use Rattle.filter.specs.declared.ast.MaybeProto.TheVariants.{NoProto, SomeProto}
-use Rattle.filter.specs.declared.ast.MaybeId.{MaybeId}
-use Rattle.filter.specs.declared.ast.MaybeId.TheVariants.{NoId, SomeId}
-use Rattle.filter.specs.declared.ast.MaybeLabel.{MaybeLabel}
-use Rattle.filter.specs.declared.ast.MaybeLabel.TheVariants.{NoLabel, SomeLabel}
 use Rattle.filter.specs.declared.ast.Ipv6Addr.{Ipv6Addr}
 use Rattle.filter.specs.declared.ast.IpNet.{IpNet}
 use Rattle.filter.specs.declared.ast.AccessSize.TheVariants.{Byte, Half, Word}
@@ -125,27 +117,27 @@ module _ (mode : ℕ) (link : LinkType) where
   l4_number (Num n) = 0
   l4_number (Ip6Proto n) = 0
 
-  unfoldable pub emit_l4_proto_check : ℕ → MaybeProto → List Slot
-  emit_l4_proto_check off NoProto = emit_load Byte off ++ (skips mode JEQ 6 1 ∷ fails mode JNE 17)
-  emit_l4_proto_check off (SomeProto x) = check mode Byte off (l4_number x)
+  unfoldable pub emit_l4_proto_check : ℕ → Option protos.Proto → List Slot
+  emit_l4_proto_check off None = emit_load Byte off ++ (skips mode JEQ 6 1 ∷ fails mode JNE 17)
+  emit_l4_proto_check off (Some x) = check mode Byte off (l4_number x)
 
   -- `emit_port_prereqs`: R6 at the transport header, with four bytes there; the two blocks, and the ethertype between them.
-  unfoldable pub prereqs_v6 : MaybeProto → List Slot
+  unfoldable pub prereqs_v6 : Option protos.Proto → List Slot
   prereqs_v6 proto =
       emit_l4_proto_check (net_offset link + 6) proto
       ++ (fixed (alu64_reg MOV 6 2) ∷ fixed (alu64_imm ADD 6 (net_offset link + 40)) ∷ guard 6 4)
 
-  unfoldable pub prereqs_v4 : MaybeProto → List Slot
+  unfoldable pub prereqs_v4 : Option protos.Proto → List Slot
   prereqs_v4 proto = emit_l4_proto_check (net_offset link + 9) proto ++ (transport (net_offset link) ++ guard 6 4)
 
-  abbrev pub prereqs_at : EtherOffset → MaybeProto → List Slot
-  prereqs_at (At off) proto =
+  abbrev pub prereqs_at : Option ℕ → Option protos.Proto → List Slot
+  prereqs_at (Some off) proto =
       emit_load Half off
       ++ (skips mode JEQ 0x0800 (suc (past (prereqs_v6 proto) 1)) ∷ fails mode JNE 0x86dd
       ++ (prereqs_v6 proto ++ (fixed (jump_always (past (prereqs_v4 proto) 0)) ∷ prereqs_v4 proto)))
-  prereqs_at Nowhere proto = prereqs_v4 proto
+  prereqs_at None proto = prereqs_v4 proto
 
-  unfoldable pub emit_port_prereqs : MaybeProto → List Slot
+  unfoldable pub emit_port_prereqs : Option protos.Proto → List Slot
   emit_port_prereqs proto = prereqs_at (ether_proto_offset link) proto
 
   -- `emit_port`.
@@ -158,14 +150,14 @@ module _ (mode : ℕ) (link : LinkType) where
   check_ports port Dst = check_port 2 port
   check_ports port SrcAndDst = check_port 0 port ++ check_port 2 port
 
-  unfoldable pub emit_port : ℕ → Dir → MaybeProto → List Slot
+  unfoldable pub emit_port : ℕ → Dir → Option protos.Proto → List Slot
   emit_port port dir proto = emit_port_prereqs proto ++ check_ports port dir
 
   -- `emit_portrange`.
   unfoldable pub check_range : ℕ → ℕ → ℕ → List Slot
   check_range off lo hi = load Half 6 off ++ (fails mode JLT lo ++ fails mode JGT hi)
 
-  unfoldable pub emit_portrange : ℕ → ℕ → Dir → MaybeProto → List Slot
+  unfoldable pub emit_portrange : ℕ → ℕ → Dir → Option protos.Proto → List Slot
   emit_portrange lo hi dir proto = emit_port_prereqs proto ++ sides dir (check_range 0 lo hi) (check_range 2 lo hi)
 
   -- `emit_ether_host`: the first four bytes of an address, then the last two; the destination at 0 comes first.
@@ -191,39 +183,39 @@ module _ (mode : ℕ) (link : LinkType) where
   emit_ip6_multicast = emit_ethertype mode link 0x86dd ++ check mode Byte (net_offset link + 24) 0xff
 
   -- `emit_vlan`; the number stands behind an ethertype, and where there is none there is no code.
-  abbrev pub vlan_number : ℕ → MaybeId → List Slot
-  vlan_number off NoId = []
-  vlan_number off (SomeId id) = emit_load Half (off + 2) ++ (fixed (alu32_imm AND 4 0x0fff) ∷ fails mode JNE id)
+  abbrev pub vlan_number : ℕ → Option ℕ → List Slot
+  vlan_number off None = []
+  vlan_number off (Some id) = emit_load Half (off + 2) ++ (fixed (alu32_imm AND 4 0x0fff) ∷ fails mode JNE id)
 
-  abbrev pub vlan_id : EtherOffset → MaybeId → List Slot
-  vlan_id (At off) id = vlan_number off id
-  vlan_id Nowhere id = []
+  abbrev pub vlan_id : Option ℕ → Option ℕ → List Slot
+  vlan_id (Some off) id = vlan_number off id
+  vlan_id None id = []
 
-  unfoldable pub emit_vlan : MaybeId → List Slot
+  unfoldable pub emit_vlan : Option ℕ → List Slot
   emit_vlan id = emit_ethertype mode link 0x8100 ++ vlan_id (ether_proto_offset link) id
 
   -- `emit_mpls`.
-  abbrev pub mpls_label : ℕ → MaybeLabel → List Slot
-  mpls_label off NoLabel = []
-  mpls_label off (SomeLabel label) = emit_load Word (off + 2) ++ (fixed (alu32_imm RSH 4 12) ∷ fails mode JNE label)
+  abbrev pub mpls_label : ℕ → Option ℕ → List Slot
+  mpls_label off None = []
+  mpls_label off (Some label) = emit_load Word (off + 2) ++ (fixed (alu32_imm RSH 4 12) ∷ fails mode JNE label)
 
-  abbrev pub mpls_at : EtherOffset → MaybeLabel → List Slot
-  mpls_at (At off) label = emit_load Half off ++ (skips mode JEQ 0x8847 1 ∷ fails mode JNE 0x8848 ++ mpls_label off label)
-  mpls_at Nowhere label = []
+  abbrev pub mpls_at : Option ℕ → Option ℕ → List Slot
+  mpls_at (Some off) label = emit_load Half off ++ (skips mode JEQ 0x8847 1 ∷ fails mode JNE 0x8848 ++ mpls_label off label)
+  mpls_at None label = []
 
-  unfoldable pub emit_mpls : MaybeLabel → List Slot
+  unfoldable pub emit_mpls : Option ℕ → List Slot
   emit_mpls label = mpls_at (ether_proto_offset link) label
 
   -- `emit_pppoe_session`.
-  abbrev pub session_number : ℕ → MaybeId → List Slot
-  session_number off NoId = []
-  session_number off (SomeId id) = check mode Half (off + 4) id
+  abbrev pub session_number : ℕ → Option ℕ → List Slot
+  session_number off None = []
+  session_number off (Some id) = check mode Half (off + 4) id
 
-  abbrev pub session_id : EtherOffset → MaybeId → List Slot
-  session_id (At off) id = session_number off id
-  session_id Nowhere id = []
+  abbrev pub session_id : Option ℕ → Option ℕ → List Slot
+  session_id (Some off) id = session_number off id
+  session_id None id = []
 
-  unfoldable pub emit_pppoe_session : MaybeId → List Slot
+  unfoldable pub emit_pppoe_session : Option ℕ → List Slot
   emit_pppoe_session id = emit_ethertype mode link 0x8864 ++ session_id (ether_proto_offset link) id
 
   -- `emit_len`.

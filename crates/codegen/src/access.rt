@@ -6,7 +6,7 @@ ghost use Rattle.pieces.specs.Fragments.{Fits};
 ghost use Rattle.codegen.specs.Primitives.{emit_len, steps_and_cmp, access_at_code, emit_byte_access};
 
 use ebpf::insn::{Insn, R2, R3, R4, R6};
-use filter::ast::{ByteAccess, CmpOp, CmpRhs, Layer, LinkType, net_offset};
+use filter::ast::{ByteAccess, CmpOp, CmpRhs, Layer, LinkType};
 use patches::{Patches, push};
 use pieces::guarded::{emit_load, emit_load_from, push_guard};
 use pieces::load::{end_of, push_load};
@@ -67,7 +67,7 @@ fn emit_trans_byte_access(
 {
     let size = x.size;
     let offset = x.offset;
-    let a = emit_transport(out, work, st, net_offset(link));
+    let a = emit_transport(out, work, st, link.net_offset());
     let b = push_guard(out, work, a, R6, end_of(size, offset));
     let c = push_load(out, work, b, size, R6, offset);
     emit_steps_and_cmp(out, work, c, mode, link, steps, from, x, value)
@@ -97,7 +97,7 @@ fn emit_access_at(
             emit_steps_and_cmp(out, work, a, mode, link, steps, from, x, value)
         }
         Layer::Net => {
-            let a = emit_load_from(out, work, st, size, net_offset(link), offset);
+            let a = emit_load_from(out, work, st, size, link.net_offset(), offset);
             emit_steps_and_cmp(out, work, a, mode, link, steps, from, x, value)
         }
         Layer::Trans => emit_trans_byte_access(out, work, st, mode, link, steps, from, x, value),

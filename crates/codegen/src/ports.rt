@@ -1,15 +1,12 @@
 // Ports: the transport header's place in R6, then the numbers there.
 ghost use Rattle.std.specs.Prelude.{◌≡◌, suc};
 ghost use Rattle.patches.specs.Code.{em, block};
-ghost use Rattle.filter.specs.declared.ast.EtherOffset.TheVariants.{At};
 ghost use Rattle.pieces.specs.Fragments.{Fits, past};
 ghost use Rattle.codegen.specs.Primitives.{l4_number, emit_l4_proto_check, prereqs_v6, prereqs_v4, prereqs_at, emit_port_prereqs};
 ghost use Rattle.codegen.specs.Primitives.{check_port, check_ports, emit_port};
 
 use ebpf::insn::{Insn, R2, R6};
-use filter::ast::{
-    AccessSize, Dir, EtherOffset, LinkType, MaybeProto, Proto, ether_proto_offset, net_offset,
-};
+use filter::ast::{AccessSize, Dir, LinkType, Proto};
 use patches::{Patches, push, push_failure, push_jump, push_success};
 use pieces::ether::net_plus;
 use pieces::guarded::{check, emit_load, push_guard};
@@ -50,18 +47,18 @@ fn emit_l4_proto_check(
     mode: u8,
     link: LinkType,
     off: u32,
-    proto: MaybeProto,
+    proto: Option<Proto>,
 ) -> Patches
     requires { Fits (emit_l4_proto_check mode link off proto) st }
     ensures { em out.new work.new result ≡ block (emit_l4_proto_check mode link off proto) (em out.old work.old st) }
 {
     match proto {
-        MaybeProto::NoProto => {
+        None => {
             let a = emit_load(out, work, st, AccessSize::Byte, off);
             let b = push_jump(out, work, a, jeq(mode, 6), 1);
             push_failure(out, work, b, jne(mode, 17))
         }
-        MaybeProto::SomeProto(p) => check(
+        Some(p) => check(
             out,
             work,
             st,
@@ -80,7 +77,7 @@ fn prereqs_v6(
     st: Patches,
     mode: u8,
     link: LinkType,
-    proto: MaybeProto,
+    proto: Option<Proto>,
 ) -> Patches
     requires { Fits (prereqs_v6 mode link proto) st }
     ensures { em out.new work.new result ≡ block (prereqs_v6 mode link proto) (em out.old work.old st) }
@@ -98,33 +95,33 @@ fn prereqs_v4(
     st: Patches,
     mode: u8,
     link: LinkType,
-    proto: MaybeProto,
+    proto: Option<Proto>,
 ) -> Patches
     requires { Fits (prereqs_v4 mode link proto) st }
     ensures { em out.new work.new result ≡ block (prereqs_v4 mode link proto) (em out.old work.old st) }
 {
     let a = emit_l4_proto_check(out, work, st, mode, link, net_plus(link, 9), proto);
-    let b = emit_transport(out, work, a, net_offset(link));
+    let b = emit_transport(out, work, a, link.net_offset());
     push_guard(out, work, b, R6, 4)
 }
 
 // How far IPv4's block is from the jump to it: TCP or UDP takes one instruction more.
-fn past_v6(mode: u8, link: LinkType, proto: MaybeProto) -> u16
+fn past_v6(mode: u8, link: LinkType, proto: Option<Proto>) -> u16
     ensures { result ≡ suc (past (prereqs_v6 mode link proto) 1) }
 {
     match proto {
-        MaybeProto::NoProto => 13,
-        MaybeProto::SomeProto(_) => 12,
+        None => 13,
+        Some(_) => 12,
     }
 }
 
 // How long IPv4's block is.
-fn past_v4(mode: u8, link: LinkType, proto: MaybeProto) -> u16
+fn past_v4(mode: u8, link: LinkType, proto: Option<Proto>) -> u16
     ensures { result ≡ past (prereqs_v4 mode link proto) 0 }
 {
     match proto {
-        MaybeProto::NoProto => 18,
-        MaybeProto::SomeProto(_) => 17,
+        None => 18,
+        Some(_) => 17,
     }
 }
 
@@ -136,10 +133,10 @@ fn prereqs_at(
     mode: u8,
     link: LinkType,
     off: u32,
-    proto: MaybeProto,
+    proto: Option<Proto>,
 ) -> Patches
-    requires { Fits (prereqs_at mode link (At off) proto) st }
-    ensures { em out.new work.new result ≡ block (prereqs_at mode link (At off) proto) (em out.old work.old st) }
+    requires { Fits (prereqs_at mode link (Some off) proto) st }
+    ensures { em out.new work.new result ≡ block (prereqs_at mode link (Some off) proto) (em out.old work.old st) }
 {
     let a = emit_load(out, work, st, AccessSize::Half, off);
     let b = push_jump(out, work, a, jeq(mode, 0x0800), past_v6(mode, link, proto));
@@ -156,14 +153,14 @@ pub(crate) fn emit_port_prereqs(
     st: Patches,
     mode: u8,
     link: LinkType,
-    proto: MaybeProto,
+    proto: Option<Proto>,
 ) -> Patches
     requires { Fits (emit_port_prereqs mode link proto) st }
     ensures { em out.new work.new result ≡ block (emit_port_prereqs mode link proto) (em out.old work.old st) }
 {
-    match ether_proto_offset(link) {
-        EtherOffset::At(off) => prereqs_at(out, work, st, mode, link, off, proto),
-        EtherOffset::Nowhere => prereqs_v4(out, work, st, mode, link, proto),
+    match link.ether_proto_offset() {
+        Some(off) => prereqs_at(out, work, st, mode, link, off, proto),
+        None => prereqs_v4(out, work, st, mode, link, proto),
     }
 }
 
@@ -221,7 +218,7 @@ pub(crate) fn emit_port(
     link: LinkType,
     port: u16,
     dir: Dir,
-    proto: MaybeProto,
+    proto: Option<Proto>,
 ) -> Patches
     requires { Fits (emit_port mode link port dir proto) st }
     ensures { em out.new work.new result ≡ block (emit_port mode link port dir proto) (em out.old work.old st) }

@@ -6,7 +6,7 @@ ghost use Rattle.codegen.specs.Primitives.{check_range, emit_portrange};
 
 use crate::ports::emit_port_prereqs;
 use ebpf::insn::{Insn, R6};
-use filter::ast::{AccessSize, Dir, LinkType, MaybeProto};
+use filter::ast::{AccessSize, Dir, LinkType, Proto};
 use patches::{Patches, push_success};
 use pieces::guarded::push_failing;
 use pieces::load::{jgt, jlt, push_load};
@@ -70,7 +70,7 @@ pub(crate) fn emit_portrange(
     lo: u16,
     hi: u16,
     dir: Dir,
-    proto: MaybeProto,
+    proto: Option<Proto>,
 ) -> Patches
     requires { Fits (emit_portrange mode link lo hi dir proto) st }
     ensures { em out.new work.new result ≡ block (emit_portrange mode link lo hi dir proto) (em out.old work.old st) }

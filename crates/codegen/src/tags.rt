@@ -2,13 +2,12 @@
 ghost use Rattle.std.specs.Prelude.{◌≡◌};
 ghost use Rattle.patches.specs.Code.{em, block};
 ghost use Rattle.filter.specs.Ast.{ether_proto_offset};
-ghost use Rattle.filter.specs.declared.ast.EtherOffset.TheVariants.{At};
 ghost use Rattle.pieces.specs.Fragments.{Fits};
 ghost use Rattle.codegen.specs.Primitives.{emit_ether_multicast, emit_ip_broadcast, emit_ip_multicast, emit_ip6_multicast};
 ghost use Rattle.codegen.specs.Primitives.{vlan_number, vlan_id, emit_vlan, mpls_label, mpls_at, emit_mpls, session_number, session_id, emit_pppoe_session};
 
 use ebpf::insn::{Insn, R4};
-use filter::ast::{AccessSize, EtherOffset, LinkType, MaybeId, MaybeLabel, ether_proto_offset};
+use filter::ast::{AccessSize, LinkType};
 use patches::{Patches, push, push_failure, push_jump};
 use pieces::ether::{emit_ethertype, net_plus};
 use pieces::guarded::{check, emit_load, emit_load_from};
@@ -107,14 +106,14 @@ fn emit_vlan_number(
     mode: u8,
     link: LinkType,
     off: u32,
-    id: MaybeId,
+    id: Option<u16>,
 ) -> Patches
     requires { Fits (vlan_number mode link off id) st }
     ensures { em out.new work.new result ≡ block (vlan_number mode link off id) (em out.old work.old st) }
 {
     match id {
-        MaybeId::NoId => st,
-        MaybeId::SomeId(n) => {
+        None => st,
+        Some(n) => {
             let a = emit_load_from(out, work, st, AccessSize::Half, off, 2);
             let b = push(out, work, a, Insn::and32_imm(R4, 0x0fff));
             push_failure(out, work, b, jne(mode, wide(n)))
@@ -129,14 +128,14 @@ pub(crate) fn emit_vlan_id(
     st: Patches,
     mode: u8,
     link: LinkType,
-    id: MaybeId,
+    id: Option<u16>,
 ) -> Patches
     requires { Fits (vlan_id mode link (ether_proto_offset link) id) st }
     ensures { em out.new work.new result ≡ block (vlan_id mode link (ether_proto_offset link) id) (em out.old work.old st) }
 {
-    match ether_proto_offset(link) {
-        EtherOffset::At(off) => emit_vlan_number(out, work, st, mode, link, off, id),
-        EtherOffset::Nowhere => st,
+    match link.ether_proto_offset() {
+        Some(off) => emit_vlan_number(out, work, st, mode, link, off, id),
+        None => st,
     }
 }
 
@@ -147,7 +146,7 @@ pub(crate) fn emit_vlan(
     st: Patches,
     mode: u8,
     link: LinkType,
-    id: MaybeId,
+    id: Option<u16>,
 ) -> Patches
     requires { Fits (emit_vlan mode link id) st }
     ensures { em out.new work.new result ≡ block (emit_vlan mode link id) (em out.old work.old st) }
@@ -164,14 +163,14 @@ fn emit_session_number(
     mode: u8,
     link: LinkType,
     off: u32,
-    id: MaybeId,
+    id: Option<u16>,
 ) -> Patches
     requires { Fits (session_number mode link off id) st }
     ensures { em out.new work.new result ≡ block (session_number mode link off id) (em out.old work.old st) }
 {
     match id {
-        MaybeId::NoId => st,
-        MaybeId::SomeId(n) => {
+        None => st,
+        Some(n) => {
             let a = emit_load_from(out, work, st, AccessSize::Half, off, 4);
             push_failure(out, work, a, jne(mode, wide(n)))
         }
@@ -185,14 +184,14 @@ pub(crate) fn emit_session_id(
     st: Patches,
     mode: u8,
     link: LinkType,
-    id: MaybeId,
+    id: Option<u16>,
 ) -> Patches
     requires { Fits (session_id mode link (ether_proto_offset link) id) st }
     ensures { em out.new work.new result ≡ block (session_id mode link (ether_proto_offset link) id) (em out.old work.old st) }
 {
-    match ether_proto_offset(link) {
-        EtherOffset::At(off) => emit_session_number(out, work, st, mode, link, off, id),
-        EtherOffset::Nowhere => st,
+    match link.ether_proto_offset() {
+        Some(off) => emit_session_number(out, work, st, mode, link, off, id),
+        None => st,
     }
 }
 
@@ -203,7 +202,7 @@ pub(crate) fn emit_pppoe_session(
     st: Patches,
     mode: u8,
     link: LinkType,
-    id: MaybeId,
+    id: Option<u16>,
 ) -> Patches
     requires { Fits (emit_pppoe_session mode link id) st }
     ensures { em out.new work.new result ≡ block (emit_pppoe_session mode link id) (em out.old work.old st) }
@@ -220,14 +219,14 @@ fn emit_mpls_label(
     mode: u8,
     link: LinkType,
     off: u32,
-    label: MaybeLabel,
+    label: Option<u32>,
 ) -> Patches
     requires { Fits (mpls_label mode link off label) st }
     ensures { em out.new work.new result ≡ block (mpls_label mode link off label) (em out.old work.old st) }
 {
     match label {
-        MaybeLabel::NoLabel => st,
-        MaybeLabel::SomeLabel(n) => {
+        None => st,
+        Some(n) => {
             let a = emit_load_from(out, work, st, AccessSize::Word, off, 2);
             let b = push(out, work, a, Insn::rsh32_imm(R4, 12));
             push_failure(out, work, b, jne(mode, n))
@@ -243,10 +242,10 @@ fn emit_mpls_at(
     mode: u8,
     link: LinkType,
     off: u32,
-    label: MaybeLabel,
+    label: Option<u32>,
 ) -> Patches
-    requires { Fits (mpls_at mode link (At off) label) st }
-    ensures { em out.new work.new result ≡ block (mpls_at mode link (At off) label) (em out.old work.old st) }
+    requires { Fits (mpls_at mode link (Some off) label) st }
+    ensures { em out.new work.new result ≡ block (mpls_at mode link (Some off) label) (em out.old work.old st) }
 {
     let a = emit_load(out, work, st, AccessSize::Half, off);
     let b = push_jump(out, work, a, jeq(mode, 0x8847), 1);
@@ -261,13 +260,13 @@ pub(crate) fn emit_mpls(
     st: Patches,
     mode: u8,
     link: LinkType,
-    label: MaybeLabel,
+    label: Option<u32>,
 ) -> Patches
     requires { Fits (emit_mpls mode link label) st }
     ensures { em out.new work.new result ≡ block (emit_mpls mode link label) (em out.old work.old st) }
 {
-    match ether_proto_offset(link) {
-        EtherOffset::At(off) => emit_mpls_at(out, work, st, mode, link, off, label),
-        EtherOffset::Nowhere => st,
+    match link.ether_proto_offset() {
+        Some(off) => emit_mpls_at(out, work, st, mode, link, off, label),
+        None => st,
     }
 }

@@ -1,15 +1,17 @@
 -- Any two answers that a public function's contract allows are equal: the result, and the last value of everything lent.
-use mathlib.Core.Path.{refl}
-use Rattle.unique.proofs.Unique.{Unique, by_result}
+use Prim.Native.Nat.{ℕ}
+use mathlib.Core.List.{List}
+use mathlib.Core.Path.{refl, sym, ◌∙◌}
+use Rattle.unique.proofs.Unique.{Unique, by_result, UniqueIn, unique_in, plain, beside}
 use Rattle.filter.specs.contracts as crate
 
-pub ether_proto_offset : Unique crate.ast.ether_proto_offset.ended (λ M 𝓤 𝓛. crate.ast.ether_proto_offset.clauses 𝓛)
+pub ether_proto_offset : Unique crate.ast.LinkType.ether_proto_offset.ended (λ M 𝓤 𝓛. crate.ast.LinkType.ether_proto_offset.clauses 𝓛)
 ether_proto_offset = by_result _ (λ κs a ws ws'. refl)
 
-pub net_offset : Unique crate.ast.net_offset.ended (λ M 𝓤 𝓛. crate.ast.net_offset.clauses 𝓛)
+pub net_offset : Unique crate.ast.LinkType.net_offset.ended (λ M 𝓤 𝓛. crate.ast.LinkType.net_offset.clauses 𝓛)
 net_offset = by_result _ (λ κs a ws ws'. refl)
 
-pub has_macs : Unique crate.ast.has_macs.ended (λ M 𝓤 𝓛. crate.ast.has_macs.clauses 𝓛)
+pub has_macs : Unique crate.ast.LinkType.has_macs.ended (λ M 𝓤 𝓛. crate.ast.LinkType.has_macs.clauses 𝓛)
 has_macs = by_result _ (λ κs a ws ws'. refl)
 
 pub link_of : Unique crate.ast.link_of.ended (λ M 𝓤 𝓛. crate.ast.link_of.clauses 𝓛)
@@ -77,6 +79,10 @@ step_at = by_result _ (λ κs a ws ws'. refl)
 
 pub find_sections : Unique crate.sheet.find_sections.ended (λ M 𝓤 𝓛. crate.sheet.find_sections.clauses 𝓛)
 find_sections = by_result _ (λ κs a ws ws'. refl)
+
+-- What the three parts hold; where a reference points is no part of a contract.
+pub sections : UniqueIn crate.sheet.Counts.sections.ended {V = List ℕ × List ℕ × List ℕ} (λ κs a r ws. (r.steps.now, r.prims.now, r.tokens.now)) (λ M 𝓤 𝓛. crate.sheet.Counts.sections.clauses 𝓛)
+sections = unique_in _ (beside _ (beside _ (plain _))) (λ κs a r r' ws ws' p q i. ((p.0 ∙ sym q.0) i, (p.1.0 ∙ sym q.1.0) i, (p.1.1 ∙ sym q.1.1) i))
 
 pub wrong_byte : Unique crate.wrong.wrong_byte.ended (λ M 𝓤 𝓛. crate.wrong.wrong_byte.clauses 𝓛)
 wrong_byte = by_result _ (λ κs a ws ws'. refl)

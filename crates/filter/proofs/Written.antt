@@ -7,9 +7,9 @@ use borrow.Author.Tests.{eq-eqb}
 use lib.ListN.{length, drop, length-append, length-drop, get_or-append}
 use lib.Seq.{take-append-le, drop-append-le, drop-append-add, get_or-append_seam, get_or-append-add, take_all}
 use Rattle.filter.specs.Bytes.{be2}
-use Rattle.filter.specs.Sheet.{step_count, prim_count, token_count, sections_of, steps_part, prims_part, tokens_part}
+use Rattle.std.specs.Prelude.{Some}
+use Rattle.filter.specs.Sheet.{counts, step_count, prim_count, token_count, sections_of, steps_part, prims_part, tokens_part}
 use Rattle.filter.specs.Written.{Front, written}
-use Rattle.filter.specs.declared.sheet.Sections.TheVariants.{Found}
 
 -- A number that stands in the front, and one right behind it.
 be2_front : (xs ys : List ℕ) (p : ℕ) → p + 1 < length xs → be2 (xs ++ ys) p ≡ be2 xs p
@@ -50,7 +50,7 @@ module _ (front : List ℕ) (whole : Front front) (tokens : List ℕ) where
   size = omega (arith, length-append front behind, whole)
 
   -- Refusal 2 does not meet it, and its counts are those written.
-  pub written_sections : sections_of (written front tokens) ≡ Found a b (length tokens)
+  pub written_sections : sections_of (written front tokens) ≡ Some (counts a b (length tokens))
   unfolding sections_of
   written_sections = rw (step_count_lem, prim_count_lem, token_count_lem, eq-eqb (length (written front tokens)) (5 * a + 24 * b + length tokens + 6) size)
 

@@ -1,11 +1,9 @@
 -- The codes of the sheet, each in its type's order. A code past the last stands for the last, so that every record can be read.
-use Rattle.std.specs.Prelude.{ℕ, Bool, true, false, cond, eqb}
+use Rattle.std.specs.Prelude.{ℕ, Bool, true, false, Option, Some, None, cond, eqb}
 use Rattle.filter.specs.declared.ast.Dir.{Dir}
 use Rattle.filter.specs.declared.ast.Dir.TheVariants.{SrcOrDst, Src, Dst, SrcAndDst}
 use Rattle.filter.specs.declared.ast.Proto.{Proto}
 use Rattle.filter.specs.declared.ast.Proto.TheVariants.{Ip, Ip6, Arp, Rarp, Tcp, Udp, Icmp, Icmp6, Igmp, Sctp, Num, Ip6Proto}
-use Rattle.filter.specs.declared.ast.MaybeProto.{MaybeProto}
-use Rattle.filter.specs.declared.ast.MaybeProto.TheVariants.{NoProto, SomeProto}
 use Rattle.filter.specs.declared.ast.ArithOp.{ArithOp}
 use Rattle.filter.specs.declared.ast.ArithOp.TheVariants.{Add, Sub, Mul, Div, Mod, And, Or, Xor, Shl, Shr}
 use Rattle.filter.specs.declared.ast.CmpOp.{CmpOp}
@@ -17,8 +15,6 @@ use Rattle.filter.specs.declared.ast.Layer.TheVariants.{Raw, Net, Trans}
 use Rattle.filter.specs.declared.ast.LinkType.{LinkType}
 use Rattle.filter.specs.declared.ast.LinkType.TheVariants.{Ethernet, RawIp, LinuxSll}
 use Rattle.filter.specs.declared.ast.Link.{Link}
-use Rattle.filter.specs.declared.ast.EtherOffset.{EtherOffset}
-use Rattle.filter.specs.declared.ast.EtherOffset.TheVariants.{At, Nowhere}
 
 -- "Link 0, Ethernet", "Link 1, RawIp", "Link 2 is new"
 unfoldable pub link_of : ℕ → LinkType
@@ -27,12 +23,12 @@ link_of b = cond (eqb b 0) Ethernet (cond (eqb b 1) RawIp LinuxSll)
 -- "Describe a link by a record: where the ethertype is, if anywhere; where the network header starts; whether MAC addresses are there."
 -- "Ethernet: ethertype at byte 12, network header at 14"; "RawIp: no ethertype, network header at 0"; "Linux's cooked header .. has 16 bytes, its protocol at 14".
 unfoldable pub link_record : LinkType → Link
-link_record Ethernet = record { ethertype = At 12; net = 14; macs = true }
-link_record RawIp = record { ethertype = Nowhere; net = 0; macs = false }
-link_record LinuxSll = record { ethertype = At 14; net = 16; macs = false }
+link_record Ethernet = record { ethertype = Some 12; net = 14; macs = true }
+link_record RawIp = record { ethertype = None; net = 0; macs = false }
+link_record LinuxSll = record { ethertype = Some 14; net = 16; macs = false }
 
 -- "All offsets .. that name 12, 14 or 16 from the frame's start .. are read from this record"
-unfoldable pub ether_proto_offset : LinkType → EtherOffset
+unfoldable pub ether_proto_offset : LinkType → Option ℕ
 ether_proto_offset link = (link_record link).ethertype
 
 unfoldable pub net_offset : LinkType → ℕ
@@ -62,8 +58,8 @@ proto_of p q =
     (Ip6Proto q)))))))))))
 
 -- "0 for none in 3 and 4 only"
-unfoldable pub maybe_proto_of : ℕ → ℕ → MaybeProto
-maybe_proto_of p q = cond (eqb p 0) NoProto (SomeProto (proto_of p q))
+unfoldable pub maybe_proto_of : ℕ → ℕ → Option Proto
+maybe_proto_of p q = cond (eqb p 0) None (Some (proto_of p q))
 
 -- "operator 0 to 9 in `ArithOp` order"
 unfoldable pub arith_of : ℕ → ArithOp

@@ -1,16 +1,12 @@
 -- What a record of 24 bytes at a place says: "0 kind; 1 direction; 2 p; 3 q; 4-7 n; 8-23 a". A kind past 23 is read as the last of the plain ones.
-use Rattle.std.specs.Prelude.{ℕ, ◌+◌, List, cond, get_or, eqb}
+use Rattle.std.specs.Prelude.{ℕ, ◌+◌, List, Option, Some, None, cond, get_or, eqb}
 use Rattle.filter.specs.Bytes.{be2, be4, be6, be8}
 use Rattle.filter.specs.Ast.{dir_of, cmp_of, arith_of, layer_of, access_size_of, proto_of, maybe_proto_of}
 use Rattle.filter.specs.declared.ast.Dir.{Dir}
-use Rattle.filter.specs.declared.ast.MaybeProto.{MaybeProto}
+use Rattle.filter.specs.declared.ast.Proto as ast
 use Rattle.filter.specs.declared.ast.Ipv6Addr.{Ipv6Addr}
 use Rattle.filter.specs.declared.ast.IpNet.{IpNet}
 use Rattle.filter.specs.declared.ast.Ipv6Net.{Ipv6Net}
-use Rattle.filter.specs.declared.ast.MaybeId.{MaybeId}
-use Rattle.filter.specs.declared.ast.MaybeId.TheVariants.{NoId, SomeId}
-use Rattle.filter.specs.declared.ast.MaybeLabel.{MaybeLabel}
-use Rattle.filter.specs.declared.ast.MaybeLabel.TheVariants.{NoLabel, SomeLabel}
 use Rattle.filter.specs.declared.ast.ByteLoad.{ByteLoad}
 use Rattle.filter.specs.declared.ast.CmpRhs.{CmpRhs}
 use Rattle.filter.specs.declared.ast.CmpRhs.TheVariants.{Const, Load}
@@ -32,12 +28,12 @@ unfoldable pub ipv6_net_at : List ℕ → ℕ → Ipv6Net
 ipv6_net_at s at = record { addr = ipv6_at s at; prefix_len = get_or s (at + 2) 0 }
 
 -- "14 Vlan and 17 PppoeSession (p 1: number n to 65535; p 0: none, n 0)"
-unfoldable pub id_at : List ℕ → ℕ → MaybeId
-id_at s at = cond (eqb (get_or s (at + 2) 0) 0) NoId (SomeId (be2 s (at + 6)))
+unfoldable pub id_at : List ℕ → ℕ → Option ℕ
+id_at s at = cond (eqb (get_or s (at + 2) 0) 0) None (Some (be2 s (at + 6)))
 
 -- "15 Mpls (the same, n any)"
-unfoldable pub label_at : List ℕ → ℕ → MaybeLabel
-label_at s at = cond (eqb (get_or s (at + 2) 0) 0) NoLabel (SomeLabel (be4 s (at + 4)))
+unfoldable pub label_at : List ℕ → ℕ → Option ℕ
+label_at s at = cond (eqb (get_or s (at + 2) 0) 0) None (Some (be4 s (at + 4)))
 
 -- "a load: layer 15, size 16, same codes, any offset 17-20"
 unfoldable pub load_at : List ℕ → ℕ → ByteLoad
@@ -65,7 +61,7 @@ unfoldable pub dir_at : List ℕ → ℕ → Dir
 dir_at s at = dir_of (get_or s (at + 1) 0)
 
 -- "In kinds 3, 4, 7, p is a `Proto` .. and 0 for none in 3 and 4 only; q is the number of 11 and 12"
-unfoldable pub proto_at : List ℕ → ℕ → MaybeProto
+unfoldable pub proto_at : List ℕ → ℕ → Option ast.Proto
 proto_at s at = maybe_proto_of (get_or s (at + 2) 0) (get_or s (at + 3) 0)
 
 -- "1 Host IPv4 (direction, n)"

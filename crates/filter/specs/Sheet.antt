@@ -1,8 +1,7 @@
 -- "three sections in this order, each after its 16-bit count": steps of 5 bytes, primitives of 24, tokens of 1.
-use Rattle.std.specs.Prelude.{ℕ, ◌+◌, ◌-◌, ◌*◌, List, cond, length, take, drop, eqb}
+use Rattle.std.specs.Prelude.{ℕ, ◌+◌, ◌-◌, ◌*◌, List, Option, Some, None, cond, length, take, drop, eqb}
 use Rattle.filter.specs.Bytes.{be2}
-use Rattle.filter.specs.declared.sheet.Sections.{Sections}
-use Rattle.filter.specs.declared.sheet.Sections.TheVariants.{Found, Wrong}
+use Rattle.filter.specs.declared.sheet.Counts.{Counts}
 
 -- the first count
 unfoldable pub step_count : List ℕ → ℕ
@@ -16,12 +15,16 @@ prim_count s = be2 s (5 * step_count s + 2)
 unfoldable pub token_count : List ℕ → ℕ
 token_count s = be2 s (5 * step_count s + 24 * prim_count s + 4)
 
+-- a steps, b primitives and c tokens
+abbrev pub counts : ℕ → ℕ → ℕ → Counts
+counts a b c = record { steps = a; prims = b; tokens = c }
+
 -- refusal 2: "sheet length differs from what its counts ask, or a count is cut"
-unfoldable pub sections_of : List ℕ → Sections
+unfoldable pub sections_of : List ℕ → Option Counts
 sections_of s =
     cond (eqb (length s) (5 * step_count s + 24 * prim_count s + token_count s + 6))
-    (Found (step_count s) (prim_count s) (token_count s))
-    Wrong
+    (Some (counts (step_count s) (prim_count s) (token_count s)))
+    None
 
 -- "each section is handed on as its own part of the sheet": the bytes from one place up to another
 abbrev pub part : List ℕ → ℕ → ℕ → List ℕ

@@ -1,9 +1,11 @@
-// The types of ast.rs by value. An `Option` is an enum of its own; an address is whole numbers.
+// The types of ast.rs by value; an address is whole numbers.
+#![tactic(auto, unfolding(crate::specs::Ast::link_record, crate::specs::Ast::ether_proto_offset, crate::specs::Ast::net_offset, crate::specs::Ast::has_macs, crate::specs::Ast::link_of, crate::specs::Ast::dir_of, crate::specs::Ast::proto_of, crate::specs::Ast::maybe_proto_of, crate::specs::Ast::arith_of, crate::specs::Ast::cmp_of, crate::specs::Ast::layer_of, crate::specs::Ast::access_size_of))]
+
 ghost use Rattle.std.specs.Prelude.{◌≡◌};
 ghost use Rattle.filter.specs.Ast.{dir_of, cmp_of, arith_of, layer_of, access_size_of, proto_of, maybe_proto_of, link_of, link_record, ether_proto_offset, net_offset, has_macs};
 
 // Which address or port is tested.
-#[derive(Clone, Copy)]
+#[derive(Clone, Copy, PartialEq, Eq)]
 pub enum Dir {
     SrcOrDst,
     Src,
@@ -11,7 +13,7 @@ pub enum Dir {
     SrcAndDst,
 }
 
-#[derive(Clone, Copy)]
+#[derive(Clone, Copy, PartialEq, Eq)]
 pub enum Proto {
     Ip,
     Ip6,
@@ -27,47 +29,28 @@ pub enum Proto {
     Ip6Proto(u8),
 }
 
-#[derive(Clone, Copy)]
-pub enum MaybeProto {
-    NoProto,
-    SomeProto(Proto),
-}
-
-// A VLAN's or a PPPoE session's number, if one is asked.
-#[derive(Clone, Copy)]
-pub enum MaybeId {
-    NoId,
-    SomeId(u16),
-}
-
-#[derive(Clone, Copy)]
-pub enum MaybeLabel {
-    NoLabel,
-    SomeLabel(u32),
-}
-
 // The first eight bytes of the address, and the last eight.
-#[derive(Clone, Copy)]
+#[derive(Clone, Copy, PartialEq, Eq)]
 pub struct Ipv6Addr {
     pub hi: u64,
     pub lo: u64,
 }
 
 // Any mask, not only a prefix's.
-#[derive(Clone, Copy)]
+#[derive(Clone, Copy, PartialEq, Eq)]
 pub struct IpNet {
     pub addr: u32,
     pub mask: u32,
 }
 
 // A prefix above 128 acts as 128.
-#[derive(Clone, Copy)]
+#[derive(Clone, Copy, PartialEq, Eq)]
 pub struct Ipv6Net {
     pub addr: Ipv6Addr,
     pub prefix_len: u8,
 }
 
-#[derive(Clone, Copy)]
+#[derive(Clone, Copy, PartialEq, Eq)]
 pub enum ArithOp {
     Add,
     Sub,
@@ -81,7 +64,7 @@ pub enum ArithOp {
     Shr,
 }
 
-#[derive(Clone, Copy)]
+#[derive(Clone, Copy, PartialEq, Eq)]
 pub enum CmpOp {
     Eq,
     Ne,
@@ -92,14 +75,14 @@ pub enum CmpOp {
     BitAnd,
 }
 
-#[derive(Clone, Copy)]
+#[derive(Clone, Copy, PartialEq, Eq)]
 pub enum AccessSize {
     Byte,
     Half,
     Word,
 }
 
-#[derive(Clone, Copy)]
+#[derive(Clone, Copy, PartialEq, Eq)]
 pub enum Layer {
     Raw,
     Net,
@@ -107,28 +90,28 @@ pub enum Layer {
 }
 
 // The offset is a signed number's 32 bits.
-#[derive(Clone, Copy)]
+#[derive(Clone, Copy, PartialEq, Eq)]
 pub struct ByteLoad {
     pub layer: Layer,
     pub offset: u32,
     pub size: AccessSize,
 }
 
-#[derive(Clone, Copy)]
+#[derive(Clone, Copy, PartialEq, Eq)]
 pub enum CmpRhs {
     Const(u32),
     Load(ByteLoad),
 }
 
 // An operation on the loaded value.
-#[derive(Clone, Copy)]
+#[derive(Clone, Copy, PartialEq, Eq)]
 pub struct Step {
     pub op: ArithOp,
     pub operand: u32,
 }
 
 // `steps` is how many steps it takes next from the steps section.
-#[derive(Clone, Copy)]
+#[derive(Clone, Copy, PartialEq, Eq)]
 pub struct ByteAccess {
     pub layer: Layer,
     pub offset: u32,
@@ -139,7 +122,7 @@ pub struct ByteAccess {
 }
 
 // A leaf of the filter tree.
-#[derive(Clone, Copy)]
+#[derive(Clone, Copy, PartialEq, Eq)]
 pub enum Primitive {
     Host {
         addr: u32,
@@ -152,13 +135,13 @@ pub enum Primitive {
     Port {
         port: u16,
         dir: Dir,
-        proto: MaybeProto,
+        proto: Option<Proto>,
     },
     PortRange {
         lo: u16,
         hi: u16,
         dir: Dir,
-        proto: MaybeProto,
+        proto: Option<Proto>,
     },
     Net {
         net: IpNet,
@@ -179,14 +162,14 @@ pub enum Primitive {
     IpMulticast,
     Ip6Multicast,
     Vlan {
-        id: MaybeId,
+        id: Option<u16>,
     },
     Mpls {
-        label: MaybeLabel,
+        label: Option<u32>,
     },
     PppoeDiscovery,
     PppoeSession {
-        session_id: MaybeId,
+        session_id: Option<u16>,
     },
     IpProtoChain(u8),
     Ip6ProtoChain(u8),
@@ -199,66 +182,64 @@ pub enum Primitive {
     ByteAccess(ByteAccess),
 }
 
-#[derive(Clone, Copy)]
+#[derive(Clone, Copy, PartialEq, Eq)]
 pub enum LinkType {
     Ethernet,
     RawIp,
     LinuxSll,
 }
 
-// Where the ethertype stands, if the link has one.
-#[derive(Clone, Copy)]
-pub enum EtherOffset {
-    At(u32),
-    Nowhere,
-}
-
 // What a link is to a filter: all that is asked of it stands here.
-#[derive(Clone, Copy)]
+#[derive(Clone, Copy, PartialEq, Eq)]
 pub struct Link {
-    pub ethertype: EtherOffset,
+    pub ethertype: Option<u32>,
     pub net: u32,
     pub macs: bool,
 }
 
-fn link_record(link: LinkType) -> Link
-    ensures { result ≡ link_record link }
-{
-    match link {
-        LinkType::Ethernet => Link {
-            ethertype: EtherOffset::At(12),
-            net: 14,
-            macs: true,
-        },
-        LinkType::RawIp => Link {
-            ethertype: EtherOffset::Nowhere,
-            net: 0,
-            macs: false,
-        },
-        LinkType::LinuxSll => Link {
-            ethertype: EtherOffset::At(14),
-            net: 16,
-            macs: false,
-        },
+impl LinkType {
+    fn record(self) -> Link
+        ensures { result ≡ link_record self }
+    {
+        match self {
+            LinkType::Ethernet => Link {
+                ethertype: Some(12),
+                net: 14,
+                macs: true,
+            },
+            LinkType::RawIp => Link {
+                ethertype: None,
+                net: 0,
+                macs: false,
+            },
+            LinkType::LinuxSll => Link {
+                ethertype: Some(14),
+                net: 16,
+                macs: false,
+            },
+        }
     }
-}
 
-pub fn ether_proto_offset(link: LinkType) -> EtherOffset
-    ensures { result ≡ ether_proto_offset link }
-{
-    link_record(link).ethertype
-}
+    // Where the ethertype stands, if the link has one.
+    pub fn ether_proto_offset(self) -> Option<u32>
+        ensures { result ≡ ether_proto_offset self }
+    {
+        self.record().ethertype
+    }
 
-pub fn net_offset(link: LinkType) -> u32
-    ensures { result ≡ net_offset link }
-{
-    link_record(link).net
-}
+    // Where the network header starts.
+    pub fn net_offset(self) -> u32
+        ensures { result ≡ net_offset self }
+    {
+        self.record().net
+    }
 
-pub fn has_macs(link: LinkType) -> bool
-    ensures { result ≡ has_macs link }
-{
-    link_record(link).macs
+    // Whether a frame's MAC addresses are there.
+    pub fn has_macs(self) -> bool
+        ensures { result ≡ has_macs self }
+    {
+        self.record().macs
+    }
 }
 
 pub fn link_of(b: u8) -> LinkType
@@ -301,14 +282,10 @@ pub fn proto_of(p: u8, q: u8) -> Proto
     }
 }
 
-pub fn maybe_proto_of(p: u8, q: u8) -> MaybeProto
+pub fn maybe_proto_of(p: u8, q: u8) -> Option<Proto>
     ensures { result ≡ maybe_proto_of p q }
 {
-    if p == 0 {
-        MaybeProto::NoProto
-    } else {
-        MaybeProto::SomeProto(proto_of(p, q))
-    }
+    if p == 0 { None } else { Some(proto_of(p, q)) }
 }
 
 pub fn arith_of(b: u8) -> ArithOp

@@ -1,4 +1,6 @@
 // Big-endian numbers in a part of the sheet. A byte past the end is 0, so that no reader asks for a length.
+#![tactic(auto, unfolding(crate::specs::Bytes::be2, crate::specs::Bytes::be4, crate::specs::Bytes::be6, crate::specs::Bytes::be8))]
+
 ghost use Rattle.std.specs.Prelude.{◌≡◌, ◌+◌, ◌-◌, ◌*◌, ◌<◌, ◌^◌, get_or};
 ghost use Rattle.filter.specs.Bytes.{be2, be4, be6, be8};
 

@@ -1,4 +1,6 @@
 // The mask of a segment of an IPv6 address, by subtraction (document 02, A2).
+#![tactic(auto, unfolding(crate::specs::Prefix::prefix_mask))]
+
 ghost use Rattle.std.specs.Prelude.{◌≡◌, ◌^◌, ◌≤◌};
 ghost use Rattle.filter.specs.Prefix.{prefix_mask};
 

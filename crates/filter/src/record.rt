@@ -1,10 +1,12 @@
 // The records of the sheet: which byte is wrong, and what a record says. Every reader takes any bytes.
+#![tactic(auto, unfolding(crate::specs::Record::ipv6_at, crate::specs::Record::ip_net_at, crate::specs::Record::ipv6_net_at, crate::specs::Record::id_at, crate::specs::Record::label_at, crate::specs::Record::load_at, crate::specs::Record::rhs_at, crate::specs::Record::access_at, crate::specs::Record::dir_at, crate::specs::Record::proto_at, crate::specs::Record::host_at, crate::specs::Record::host6_at, crate::specs::Record::port_at, crate::specs::Record::range_at, crate::specs::Record::net_at, crate::specs::Record::net6_at, crate::specs::Record::ether_host_at, crate::specs::Record::mpls_at, crate::specs::Record::session_at, crate::specs::Record::len_at, crate::specs::Record::decode_at, crate::specs::Record::step_at))]
+
 ghost use Rattle.std.specs.Prelude.{◌≡◌, ◌+◌, ◌*◌};
 ghost use Rattle.filter.specs.Record.{ipv6_at, ip_net_at, ipv6_net_at, id_at, label_at, load_at, rhs_at, access_at, dir_at, proto_at, host_at, host6_at, port_at, range_at, net_at, net6_at, ether_host_at, mpls_at, session_at, len_at, decode_at, step_at};
 
 use crate::ast::{
-    ByteAccess, ByteLoad, CmpRhs, Dir, IpNet, Ipv6Addr, Ipv6Net, MaybeId, MaybeLabel, MaybeProto,
-    Primitive, Step, access_size_of, arith_of, cmp_of, dir_of, layer_of, maybe_proto_of, proto_of,
+    ByteAccess, ByteLoad, CmpRhs, Dir, IpNet, Ipv6Addr, Ipv6Net, Primitive, Proto, Step,
+    access_size_of, arith_of, cmp_of, dir_of, layer_of, maybe_proto_of, proto_of,
 };
 use crate::bytes::{
     record_byte, record_half, record_kind, record_long, record_mac, record_word, step_code,
@@ -38,23 +40,23 @@ fn ipv6_net_at(part: &[u8], i: u32) -> Ipv6Net
     }
 }
 
-fn id_at(part: &[u8], i: u32) -> MaybeId
+fn id_at(part: &[u8], i: u32) -> Option<u16>
     ensures { result ≡ id_at part.now (24 * i) }
 {
     if record_byte(part, i, 2) == 0 {
-        MaybeId::NoId
+        None
     } else {
-        MaybeId::SomeId(record_half(part, i, 6))
+        Some(record_half(part, i, 6))
     }
 }
 
-fn label_at(part: &[u8], i: u32) -> MaybeLabel
+fn label_at(part: &[u8], i: u32) -> Option<u32>
     ensures { result ≡ label_at part.now (24 * i) }
 {
     if record_byte(part, i, 2) == 0 {
-        MaybeLabel::NoLabel
+        None
     } else {
-        MaybeLabel::SomeLabel(record_word(part, i, 4))
+        Some(record_word(part, i, 4))
     }
 }
 
@@ -98,7 +100,7 @@ fn dir_at(part: &[u8], i: u32) -> Dir
     dir_of(record_byte(part, i, 1))
 }
 
-fn proto_at(part: &[u8], i: u32) -> MaybeProto
+fn proto_at(part: &[u8], i: u32) -> Option<Proto>
     ensures { result ≡ proto_at part.now (24 * i) }
 {
     maybe_proto_of(record_byte(part, i, 2), record_byte(part, i, 3))

@@ -1,4 +1,6 @@
 // Refusal 3: which byte of a section is wrong, and the lowest that is.
+#![tactic(auto, unfolding(crate::specs::Wrong::q_most, crate::specs::Wrong::field_most, crate::specs::Wrong::optional, crate::specs::Wrong::number_most, crate::specs::Wrong::access_most, crate::specs::Wrong::plain_most, crate::specs::Wrong::most, crate::specs::Wrong::least, crate::specs::Wrong::wrong_byte, crate::specs::Wrong::record_wrong, crate::specs::Wrong::step_wrong, crate::specs::Wrong::token_wrong))]
+
 ghost use Rattle.std.specs.Prelude.{◌≡◌, ◌+◌, ◌*◌, ◌/◌, ◌%◌, ◌^◌, ◌<◌, get_or};
 ghost use Rattle.filter.specs.First.{first};
 ghost use Rattle.filter.specs.Wrong.{dir_table, p_table, q_most, from_table, to_table, optional, field_most, number_most, const_table, load_table, other_table, access_most, plain_most, most, least, wrong_byte, record_wrong, step_wrong, token_wrong};

@@ -1,12 +1,11 @@
 -- `compile`: its answer, and what it leaves in output and work, for any arguments.
-use Rattle.std.specs.Prelude.{ℕ, ◌+◌, ◌*◌, ◌^◌, ◌<◌, ◌≤◌, ◌≡◌, List, ◌++◌, drop, length}
+use Rattle.std.specs.Prelude.{ℕ, ◌+◌, ◌*◌, ◌^◌, ◌<◌, ◌≤◌, ◌≡◌, List, ◌++◌, drop, length, Some}
 use Rattle.filter.specs.Ast.{link_of}
 use Rattle.filter.specs.declared.ast.LinkType.{LinkType}
 use Rattle.filter.specs.Sheet.{steps_part, prims_part, tokens_part}
 use Rattle.tree.specs.Tree.{tree_of}
 use Rattle.tree.specs.Tokens.{count, is_jump}
 use Rattle.tree.specs.Shape.{shape_of}
-use Rattle.tree.specs.declared.Shape.TheVariants.{Whole}
 use Rattle.checks.specs.Measure.{admit_of}
 use Rattle.checks.specs.declared.measure.Measured.{Measured}
 use Rattle.checks.specs.declared.measure.Measured.TheVariants as measured
@@ -65,7 +64,7 @@ unwritten = record { pos = 0; success = empty; failure = empty }
 -- The sections of a sheet past refusal 8: one whole tree of so many primitives, and their L.
 pub record Sized (mode : ℕ) (link : LinkType) (steps prims tokens : List ℕ) (l : ℕ) : Type 0 where
   pub leaves : ℕ
-  pub one_tree : shape_of tokens ≡ Whole leaves
+  pub one_tree : shape_of tokens ≡ Some leaves
   pub exact : l ≡ 6 + count is_jump tokens + sizes (template mode link steps prims) 0 leaves
   pub short : l < 2 ^ 32
   pub few : length tokens < 2 ^ 16

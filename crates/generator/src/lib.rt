@@ -22,6 +22,7 @@ use codegen::primitive::emit_primitive;
 use ebpf::insn::{Insn, R0, R1, R2, R3};
 use filter::ast::{LinkType, Primitive, link_of};
 use filter::record::primitive_at;
+use filter::sheet::Counts;
 use patches::{Finished, PatchList, Patched, Patches, finish, push, resolve_all, save};
 
 // A refusal of document 01 with its place, or the number of the program's instructions.
@@ -282,23 +283,21 @@ pub fn compile(sheet: &[u8], link: u8, mode: u8, output: &mut [u8], work: &mut [
             tokens,
             length,
         } => {
-            let x = 5 * (steps as usize);
-            let y = x + 24 * (prims as usize);
-            let z = y + (tokens as usize);
-            let a = x + 2;
-            let p = x + 4;
-            let b = y + 4;
-            let t = y + 6;
-            let c = z + 6;
+            let parts = Counts {
+                steps,
+                prims,
+                tokens,
+            }
+            .sections(sheet);
             generate(
                 output,
                 work,
                 length as usize,
                 mode,
                 link_of(link),
-                &sheet[2..a],
-                &sheet[p..b],
-                &sheet[t..c],
+                parts.steps,
+                parts.prims,
+                parts.tokens,
             )
         }
     }

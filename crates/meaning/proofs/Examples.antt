@@ -1,4 +1,5 @@
 -- The definitions computed, by hand-made frames and sheets: what document 01 checks by hand of the evaluator.
+use Rattle.std.specs.Prelude.{None}
 use Rattle.std.proofs.Common.{◌≡◌, ℕ, zero, suc, true, false, List, [], ◌∷◌, ◌++◌, take, refl}
 use Rattle.filter.specs.Ast.{link_of, link_record, ether_proto_offset, net_offset, dir_of}
 use Rattle.filter.specs.Bytes.{be2, be4}
@@ -16,7 +17,6 @@ use Rattle.meaning.specs.Meaning.{directed, covered, half_mask, half_of, given, 
 use Rattle.meaning.specs.Evaluate.{primitive_holds, expression_holds, first_refused, judge, evaluated, evaluate_of}
 use Rattle.filter.specs.declared.ast.LinkType.TheVariants.{Ethernet, RawIp}
 use Rattle.filter.specs.declared.ast.Dir.TheVariants.{SrcOrDst, Src}
-use Rattle.filter.specs.declared.ast.MaybeProto.TheVariants.{NoProto}
 use Rattle.filter.specs.declared.ast.Primitive.TheVariants.{Port}
 use Rattle.meaning.specs.declared.evaluate.Verdict.TheVariants.{Refused, Judged}
 
@@ -55,10 +55,10 @@ abbrev segment : List ℕ
 segment = 0x45 ∷ (zeros 8 ++ (6 ∷ (zeros 10 ++ (0 ∷ 80 ∷ 4 ∷ 1 ∷ []))))
 
 -- K7: "RawIp, header 20, source port: 24 bytes pass, 23 drop."
-pub k7 : (means RawIp segment [] 0 (Port 80 Src NoProto) ≡ true)
-    × (means RawIp (take 23 segment) [] 0 (Port 80 Src NoProto) ≡ false)
-    × (means RawIp segment [] 0 (Port 1025 SrcOrDst NoProto) ≡ true)
-    × (means RawIp segment [] 0 (Port 1025 Src NoProto) ≡ false)
+pub k7 : (means RawIp segment [] 0 (Port 80 Src None) ≡ true)
+    × (means RawIp (take 23 segment) [] 0 (Port 80 Src None) ≡ false)
+    × (means RawIp segment [] 0 (Port 1025 SrcOrDst None) ≡ true)
+    × (means RawIp segment [] 0 (Port 1025 Src None) ≡ false)
 unfolding means ports ports_at start4 start6 ip ip6 l4 given directed ethertype passes there number ether_proto_offset net_offset link_record
 k7 = (refl, refl, refl, refl)
 

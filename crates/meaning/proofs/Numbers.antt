@@ -1,9 +1,10 @@
 -- Laws of numbers that wrap, and of tests.
 use Rattle.std.proofs.Common.{◌≡◌, ℕ, ◌+◌, ◌-◌, ◌*◌, ◌%◌, ◌^◌, ◌<◌, Bool, true, false, ◌&&◌, eqb, leb, List, sym, refl, ap, ◌∙◌, lt_of_le_of_lt, le_of_lt, le_antisymm, mul-le-mul_left, mul-lt-mul_of_pos_right, arith, pow_pos, w32, w64, Fits, eq-eqb, ne_eqb, leb-false, leb-true}
 use mathlib.Core.Path.{fun_ext}
+use Rattle.std.specs.Prelude.{Option}
+use Rattle.filter.specs.declared.ast.Proto.{Proto}
 use Rattle.filter.specs.declared.ast.LinkType.{LinkType}
 use Rattle.filter.specs.declared.ast.Dir.{Dir}
-use Rattle.filter.specs.declared.ast.MaybeProto.{MaybeProto}
 use Rattle.meaning.specs.Meaning.{ports}
 
 pub product_fits : {a b : ℕ} → Fits w32 a → Fits w32 b → Fits w64 (a * b)
@@ -28,6 +29,6 @@ between k x = go (leb k x) (leb x k) refl refl
     go false q ep eq = let h : x < k = leb-false _ _ ep in sym (ne_eqb k x (λ e. omega arith))
 
 -- a port is the range from it to itself
-pub one_port : (link : LinkType) (f : List ℕ) (proto : MaybeProto) (dir : Dir) (k : ℕ)
+pub one_port : (link : LinkType) (f : List ℕ) (proto : Option Proto) (dir : Dir) (k : ℕ)
     → ports link f proto dir (λ x. leb k x && leb x k) ≡ ports link f proto dir (eqb k)
 one_port link f proto dir k = ap (ports link f proto dir) (fun_ext (between k))

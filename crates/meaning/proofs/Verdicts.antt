@@ -1,4 +1,5 @@
 -- From the walk's answer and the loop over the primitives to the verdict.
+use Rattle.std.specs.Prelude.{Some}
 use Rattle.std.proofs.Common.{◌≡◌, ℕ, ◌+◌, ◌-◌, ◌*◌, ◌<◌, ◌≤◌, Bool, true, false, not, eqb, List, [], ◌++◌, drop, sym, ap, ◌∙◌, ⊎_elim, append-nil, arith, le-ltb, lt-ltb, ne_eqb}
 use Rattle.filter.specs.First.{first}
 use Rattle.filter.specs.Record.{decode_at}
@@ -7,7 +8,6 @@ use Rattle.filter.specs.declared.ast.LinkType.{LinkType}
 use Rattle.filter.specs.declared.ast.Primitive.{Primitive}
 use Rattle.tree.specs.Tree.{Tree, flat, leaves, depth, holds, tree_of}
 use Rattle.tree.specs.Shape.{shape_of}
-use Rattle.tree.specs.declared.Shape.TheVariants.{Whole}
 use Rattle.tree.proofs.Exact.{flat_whole}
 use Rattle.tree.proofs.Prefix.{tree_flat}
 use Rattle.checks.specs.Check.{steps_before}
@@ -97,13 +97,13 @@ module _ (link : LinkType) (steps prims ts : List ℕ) (b : ℕ) (f : List ℕ) 
         (λ (g : 256 < depth t). let sunk = sinking g in let clash : ◌≡◌ {A = ℕ} 0 1 = cc in omega arith)
         (at_most_or_above (depth t) 256)
 
-  pub judge_done : shape_of ts ≡ Whole b → {h : Bool} {next : Spot} → walked ≡ Done h next → refused_or link steps prims b h ≡ judge link steps prims ts b f
+  pub judge_done : shape_of ts ≡ Some b → {h : Bool} {next : Spot} → walked ≡ Done h next → refused_or link steps prims b h ≡ judge link steps prims ts b f
   judge_done one e = let t = flat_whole ts b one in done_tree t.0 t.1 t.2 e
 
-  pub judge_deep : shape_of ts ≡ Whole b → walked ≡ TooDeep → Refused 9 0 ≡ judge link steps prims ts b f
+  pub judge_deep : shape_of ts ≡ Some b → walked ≡ TooDeep → Refused 9 0 ≡ judge link steps prims ts b f
   judge_deep one e = let t = flat_whole ts b one in deep_tree t.0 t.1 t.2 e
 
-  pub judge_never : shape_of ts ≡ Whole b → walked ≡ Broken → {v : Verdict} → v ≡ judge link steps prims ts b f
+  pub judge_never : shape_of ts ≡ Some b → walked ≡ Broken → {v : Verdict} → v ≡ judge link steps prims ts b f
   judge_never one e = let t = flat_whole ts b one in absurd (never_broken t.0 t.1 t.2 e)
 
 -- "Prove that any two results allowed are equal": those of `evaluate`.

@@ -1,8 +1,6 @@
 -- "Comparison constant: a number compared for equality or order, the fixed ones of IpBroadcast and IpMulticast, and a MAC's first four bytes
 -- included; a net's is the address with the mask applied. BitAnd has none." Plain mode's promise is for trees whose constants are all below 2^31.
-use Rattle.std.specs.Prelude.{ℕ, ◌/◌, ◌^◌, Bool, true, bit_and, nat_lt}
-use Rattle.filter.specs.declared.ast.MaybeLabel.{MaybeLabel}
-use Rattle.filter.specs.declared.ast.MaybeLabel.TheVariants.{NoLabel, SomeLabel}
+use Rattle.std.specs.Prelude.{ℕ, ◌/◌, ◌^◌, Bool, true, bit_and, nat_lt, Option, Some, None}
 use Rattle.filter.specs.declared.ast.CmpOp.{CmpOp}
 use Rattle.filter.specs.declared.ast.CmpOp.TheVariants.{Eq, Ne, Lt, Le, Gt, Ge, BitAnd}
 use Rattle.filter.specs.declared.ast.CmpRhs.{CmpRhs}
@@ -27,9 +25,9 @@ abbrev pub small_rhs : CmpOp → CmpRhs → Bool
 small_rhs op (Const k) = small_compared op k
 small_rhs op (Load l) = true
 
-abbrev pub small_label : MaybeLabel → Bool
-small_label NoLabel = true
-small_label (SomeLabel n) = small n
+abbrev pub small_label : Option ℕ → Bool
+small_label None = true
+small_label (Some n) = small n
 
 -- Every comparison constant of a primitive is below 2^31: those that are bytes, halves or fixed small numbers always are.
 unfoldable pub small_constants : Primitive → Bool

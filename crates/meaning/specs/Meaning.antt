@@ -1,22 +1,14 @@
 -- What each test means: document 01, "What each test means", sentence by sentence. A test that is refused means nothing: what stands here for it is never asked.
-use Rattle.std.specs.Prelude.{ℕ, zero, suc, ◌+◌, ◌-◌, ◌*◌, ◌/◌, ◌%◌, ◌^◌, Bool, true, false, cond, not, ◌&&◌, ◌||◌, List, length, ◌==◌, bit_and, bit_or, bit_xor, nat_eq, nat_le, nat_lt}
+use Rattle.std.specs.Prelude.{ℕ, zero, suc, ◌+◌, ◌-◌, ◌*◌, ◌/◌, ◌%◌, ◌^◌, Bool, true, false, cond, not, ◌&&◌, ◌||◌, List, length, ◌==◌, bit_and, bit_or, bit_xor, nat_eq, nat_le, nat_lt, Option, Some, None}
 use Rattle.filter.specs.Prefix.{prefix_mask}
 use Rattle.filter.specs.Ast.{ether_proto_offset, net_offset}
 use Rattle.filter.specs.Record.{step_at}
 use Rattle.meaning.specs.Frame.{there, number, passes}
 use Rattle.filter.specs.declared.ast.LinkType.{LinkType}
-use Rattle.filter.specs.declared.ast.EtherOffset.{EtherOffset}
-use Rattle.filter.specs.declared.ast.EtherOffset.TheVariants.{At, Nowhere}
 use Rattle.filter.specs.declared.ast.Dir.{Dir}
 use Rattle.filter.specs.declared.ast.Dir.TheVariants.{SrcOrDst, Src, Dst, SrcAndDst}
 use Rattle.filter.specs.declared.ast.Proto as protos
 use Rattle.filter.specs.declared.ast.Proto.TheVariants.{Ip, Ip6, Arp, Rarp, Tcp, Udp, Icmp, Icmp6, Igmp, Sctp, Num, Ip6Proto}
-use Rattle.filter.specs.declared.ast.MaybeProto.{MaybeProto}
-use Rattle.filter.specs.declared.ast.MaybeProto.TheVariants.{NoProto, SomeProto}
-use Rattle.filter.specs.declared.ast.MaybeId.{MaybeId}
-use Rattle.filter.specs.declared.ast.MaybeId.TheVariants.{NoId, SomeId}
-use Rattle.filter.specs.declared.ast.MaybeLabel.{MaybeLabel}
-use Rattle.filter.specs.declared.ast.MaybeLabel.TheVariants.{NoLabel, SomeLabel}
 use Rattle.filter.specs.declared.ast.Ipv6Addr.{Ipv6Addr}
 use Rattle.filter.specs.declared.ast.IpNet.{IpNet}
 use Rattle.filter.specs.declared.ast.ArithOp.{ArithOp}
@@ -101,23 +93,23 @@ given (Num n) p = false
 given (Ip6Proto n) p = false
 
 -- "or, with none, 6 or 17".
-unfoldable pub l4 : MaybeProto → ℕ → Bool
-l4 NoProto p = 6 == p || 17 == p
-l4 (SomeProto x) p = given x p
+unfoldable pub l4 : Option protos.Proto → ℕ → Bool
+l4 None p = 6 == p || 17 == p
+l4 (Some x) p = given x p
 
 module _ (link : LinkType) (f : List ℕ) where
   -- "Ethertype x: the half at 12 is x. On RawIp 0x0800 is true."
-  abbrev pub ethertype_at : EtherOffset → ℕ → Bool
-  ethertype_at (At at) x = passes f 2 at (nat_eq x)
-  ethertype_at Nowhere x = x == 0x0800
+  abbrev pub ethertype_at : Option ℕ → ℕ → Bool
+  ethertype_at (Some at) x = passes f 2 at (nat_eq x)
+  ethertype_at None x = x == 0x0800
 
   unfoldable pub ethertype : ℕ → Bool
   ethertype x = ethertype_at (ether_proto_offset link) x
 
   -- "tags relative to the ethertype": the number of n bytes, so many bytes past the ethertype field.
-  abbrev pub tagged_at : EtherOffset → ℕ → ℕ → (ℕ → Bool) → Bool
-  tagged_at (At at) n past test = passes f n (at + past) test
-  tagged_at Nowhere n past test = false
+  abbrev pub tagged_at : Option ℕ → ℕ → ℕ → (ℕ → Bool) → Bool
+  tagged_at (Some at) n past test = passes f n (at + past) test
+  tagged_at None n past test = false
 
   unfoldable pub tagged : ℕ → ℕ → (ℕ → Bool) → Bool
   tagged n past test = tagged_at (ether_proto_offset link) n past test
@@ -190,7 +182,7 @@ module _ (link : LinkType) (f : List ℕ) where
   ports_at at dir test = there f 4 at && directed dir (test (number f 2 at)) (test (number f 2 (at + 2)))
 
   -- "IPv4 or IPv6 (RawIp: IPv4 only), protocol as given or, with none, 6 or 17."
-  unfoldable pub ports : MaybeProto → Dir → (ℕ → Bool) → Bool
+  unfoldable pub ports : Option protos.Proto → Dir → (ℕ → Bool) → Bool
   ports proto dir test =
       (ip 1 9 (l4 proto) && (there f 1 (net_offset link) && ports_at start4 dir test))
       || (ip6 1 6 (l4 proto) && ports_at start6 dir test)
@@ -200,19 +192,19 @@ module _ (link : LinkType) (f : List ℕ) where
   ether_host addr dir = directed dir (passes f 6 6 (nat_eq addr)) (passes f 6 0 (nat_eq addr))
 
   -- "Vlan: 0x8100, low 12 bits of the half at 14."
-  unfoldable pub vlan : MaybeId → Bool
-  vlan NoId = ethertype 0x8100
-  vlan (SomeId n) = ethertype 0x8100 && tagged 2 2 (λ h. nat_eq n (h % 4096))
+  unfoldable pub vlan : Option ℕ → Bool
+  vlan None = ethertype 0x8100
+  vlan (Some n) = ethertype 0x8100 && tagged 2 2 (λ h. nat_eq n (h % 4096))
 
   -- "MPLS: 0x8847 or 0x8848, top 20 bits of the word at 14."
-  unfoldable pub mpls : MaybeLabel → Bool
-  mpls NoLabel = ethertype 0x8847 || ethertype 0x8848
-  mpls (SomeLabel n) = (ethertype 0x8847 || ethertype 0x8848) && tagged 4 2 (λ w. nat_eq n (w / 4096))
+  unfoldable pub mpls : Option ℕ → Bool
+  mpls None = ethertype 0x8847 || ethertype 0x8848
+  mpls (Some n) = (ethertype 0x8847 || ethertype 0x8848) && tagged 4 2 (λ w. nat_eq n (w / 4096))
 
   -- "PPPoE session: 0x8864, half at 16".
-  unfoldable pub pppoe : MaybeId → Bool
-  pppoe NoId = ethertype 0x8864
-  pppoe (SomeId n) = ethertype 0x8864 && tagged 2 4 (nat_eq n)
+  unfoldable pub pppoe : Option ℕ → Bool
+  pppoe None = ethertype 0x8864
+  pppoe (Some n) = ethertype 0x8864 && tagged 2 4 (nat_eq n)
 
   -- "Byte access: the load, then its steps", from step j of the steps section on; "then the comparison".
   module _ (steps : List ℕ) (j : ℕ) where

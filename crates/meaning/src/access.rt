@@ -6,7 +6,7 @@ ghost use Rattle.meaning.specs.Meaning.{arith, stepped, compared, bytes_of, acce
 
 use crate::frame::{byte_at, half_at, has, word_at};
 use crate::ports::start4;
-use filter::ast::{AccessSize, ArithOp, ByteAccess, CmpOp, CmpRhs, Layer, LinkType, net_offset};
+use filter::ast::{AccessSize, ArithOp, ByteAccess, CmpOp, CmpRhs, Layer, LinkType};
 use filter::record::step_at;
 
 // The product modulo 2^32, through 64 bits.
@@ -118,7 +118,7 @@ fn access_layer(link: LinkType, frame: &[u8], steps: &[u8], j: u32, x: ByteAcces
     ensures { result ≡ access_layer link frame.now steps.now j x.layer x k }
 {
     let layer = x.layer;
-    let net = net_offset(link);
+    let net = link.net_offset();
     match layer {
         Layer::Raw => access_at(link, frame, steps, j, x, k, 0),
         Layer::Net => access_at(link, frame, steps, j, x, k, net),

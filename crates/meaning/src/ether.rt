@@ -4,14 +4,14 @@ ghost use Rattle.meaning.specs.Meaning.{ethertype, tagged, ether_host, vlan, mpl
 
 use crate::frame::{half_at, half_is, has, mac_is, word_at};
 use crate::side::directed;
-use filter::ast::{Dir, EtherOffset, LinkType, MaybeId, MaybeLabel, ether_proto_offset};
+use filter::ast::{Dir, LinkType};
 
 pub fn ethertype(link: LinkType, frame: &[u8], x: u16) -> bool
     ensures { result ≡ ethertype link frame.now x }
 {
-    match ether_proto_offset(link) {
-        EtherOffset::At(at) => half_is(frame, at, 0, x),
-        EtherOffset::Nowhere => x == 0x0800,
+    match link.ether_proto_offset() {
+        Some(at) => half_is(frame, at, 0, x),
+        None => x == 0x0800,
     }
 }
 
@@ -25,22 +25,22 @@ pub fn ether_host(link: LinkType, frame: &[u8], addr: u64, dir: Dir) -> bool
 fn tag_id(link: LinkType, frame: &[u8], n: u16) -> bool
     ensures { result ≡ tagged link frame.now 2 2 (λ h. nat_eq n (h % 4096)) }
 {
-    match ether_proto_offset(link) {
-        EtherOffset::At(at) => if has(frame, 2, at, 2) {
+    match link.ether_proto_offset() {
+        Some(at) => if has(frame, 2, at, 2) {
             n == half_at(frame, at, 2) % 4096
         } else {
             false
         },
-        EtherOffset::Nowhere => false,
+        None => false,
     }
 }
 
-pub fn vlan(link: LinkType, frame: &[u8], id: MaybeId) -> bool
+pub fn vlan(link: LinkType, frame: &[u8], id: Option<u16>) -> bool
     ensures { result ≡ vlan link frame.now id }
 {
     match id {
-        MaybeId::NoId => ethertype(link, frame, 0x8100),
-        MaybeId::SomeId(n) => if ethertype(link, frame, 0x8100) {
+        None => ethertype(link, frame, 0x8100),
+        Some(n) => if ethertype(link, frame, 0x8100) {
             tag_id(link, frame, n)
         } else {
             false
@@ -52,13 +52,13 @@ pub fn vlan(link: LinkType, frame: &[u8], id: MaybeId) -> bool
 fn top_label(link: LinkType, frame: &[u8], n: u32) -> bool
     ensures { result ≡ tagged link frame.now 4 2 (λ w. nat_eq n (w / 4096)) }
 {
-    match ether_proto_offset(link) {
-        EtherOffset::At(at) => if has(frame, 4, at, 2) {
+    match link.ether_proto_offset() {
+        Some(at) => if has(frame, 4, at, 2) {
             n == word_at(frame, at, 2) / 4096
         } else {
             false
         },
-        EtherOffset::Nowhere => false,
+        None => false,
     }
 }
 
@@ -73,12 +73,12 @@ fn is_mpls(link: LinkType, frame: &[u8]) -> bool
     }
 }
 
-pub fn mpls(link: LinkType, frame: &[u8], label: MaybeLabel) -> bool
+pub fn mpls(link: LinkType, frame: &[u8], label: Option<u32>) -> bool
     ensures { result ≡ mpls link frame.now label }
 {
     match label {
-        MaybeLabel::NoLabel => is_mpls(link, frame),
-        MaybeLabel::SomeLabel(n) => if is_mpls(link, frame) {
+        None => is_mpls(link, frame),
+        Some(n) => if is_mpls(link, frame) {
             top_label(link, frame, n)
         } else {
             false
@@ -89,18 +89,18 @@ pub fn mpls(link: LinkType, frame: &[u8], label: MaybeLabel) -> bool
 fn session_id(link: LinkType, frame: &[u8], n: u16) -> bool
     ensures { result ≡ tagged link frame.now 2 4 (nat_eq n) }
 {
-    match ether_proto_offset(link) {
-        EtherOffset::At(at) => half_is(frame, at, 4, n),
-        EtherOffset::Nowhere => false,
+    match link.ether_proto_offset() {
+        Some(at) => half_is(frame, at, 4, n),
+        None => false,
     }
 }
 
-pub fn pppoe(link: LinkType, frame: &[u8], id: MaybeId) -> bool
+pub fn pppoe(link: LinkType, frame: &[u8], id: Option<u16>) -> bool
     ensures { result ≡ pppoe link frame.now id }
 {
     match id {
-        MaybeId::NoId => ethertype(link, frame, 0x8864),
-        MaybeId::SomeId(n) => if ethertype(link, frame, 0x8864) {
+        None => ethertype(link, frame, 0x8864),
+        Some(n) => if ethertype(link, frame, 0x8864) {
             session_id(link, frame, n)
         } else {
             false

@@ -1,7 +1,6 @@
 // The evaluator: what a sheet says of a frame.
 ghost use Rattle.std.specs.Prelude.{◌≡◌, ◌^◌, ◌<◌};
 ghost use Rattle.tree.specs.Shape.{shape_of};
-ghost use Rattle.tree.specs.declared.Shape.TheVariants.{Whole};
 ghost use Rattle.checks.specs.Check.{steps_before};
 ghost use Rattle.meaning.specs.Evaluate.{judge, evaluate_of};
 ghost use Rattle.meaning.specs.Walk.{refused_or};
@@ -11,6 +10,7 @@ use checks::check::{Checked, check_sheet, takes_steps};
 use checks::refusal::refusal_of;
 use filter::ast::{LinkType, link_of};
 use filter::record::primitive_at;
+use filter::sheet::Counts;
 
 // The evaluator's answer.
 #[derive(Clone, Copy)]
@@ -40,7 +40,7 @@ fn refused_or(link: LinkType, steps: &[u8], prims: &[u8], b: u16, holds: bool) -
 
 // Tokens that are one tree of b primitives; refusal 9 comes before 11 to 19.
 fn judge(link: LinkType, steps: &[u8], prims: &[u8], tokens: &[u8], b: u16, frame: &[u8]) -> Verdict
-    requires { (shape_of tokens.now ≡ Whole b) × (steps_before prims.now b < 2 ^ 32) }
+    requires { (shape_of tokens.now ≡ Some b) × (steps_before prims.now b < 2 ^ 32) }
     ensures { result ≡ judge link steps.now prims.now tokens.now b frame.now }
 {
     let start = Spot {
@@ -73,22 +73,17 @@ pub fn evaluate(sheet: &[u8], link: u8, frame: &[u8]) -> Verdict
             prims,
             tokens,
         } => {
-            let upto_steps = 5 * (steps as usize);
-            let upto_prims = upto_steps + 24 * (prims as usize);
-            let upto_tokens = upto_prims + (tokens as usize);
-            let steps_end = upto_steps + 2;
-            let prims_start = upto_steps + 4;
-            let prims_end = upto_prims + 4;
-            let tokens_start = upto_prims + 6;
-            let tokens_end = upto_tokens + 6;
-            let steps_part = &sheet[2..steps_end];
-            let prims_part = &sheet[prims_start..prims_end];
-            let tokens_part = &sheet[tokens_start..tokens_end];
+            let parts = Counts {
+                steps,
+                prims,
+                tokens,
+            }
+            .sections(sheet);
             judge(
                 link_of(link),
-                steps_part,
-                prims_part,
-                tokens_part,
+                parts.steps,
+                parts.prims,
+                parts.tokens,
                 prims,
                 frame,
             )

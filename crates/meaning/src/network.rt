@@ -6,14 +6,14 @@ ghost use Rattle.meaning.specs.Meaning.{ip, ip6, ip4_proto, ip6_proto, dual_prot
 use crate::ether::ethertype;
 use crate::frame::{byte_is, half_under, has, word_at, word_is, word_under};
 use crate::side::directed;
-use filter::ast::{Dir, IpNet, Ipv6Addr, LinkType, Proto, net_offset};
+use filter::ast::{Dir, IpNet, Ipv6Addr, LinkType, Proto};
 use filter::prefix::prefix_mask;
 
 pub fn ip_byte(link: LinkType, frame: &[u8], at: u32, k: u8) -> bool
     ensures { result ≡ ip link frame.now 1 at (nat_eq k) }
 {
     if ethertype(link, frame, 0x0800) {
-        byte_is(frame, net_offset(link), at, k)
+        byte_is(frame, link.net_offset(), at, k)
     } else {
         false
     }
@@ -23,7 +23,7 @@ pub fn ip6_byte(link: LinkType, frame: &[u8], at: u32, k: u8) -> bool
     ensures { result ≡ ip6 link frame.now 1 at (nat_eq k) }
 {
     if ethertype(link, frame, 0x86dd) {
-        byte_is(frame, net_offset(link), at, k)
+        byte_is(frame, link.net_offset(), at, k)
     } else {
         false
     }
@@ -33,7 +33,7 @@ pub fn ip_word(link: LinkType, frame: &[u8], at: u32, k: u32) -> bool
     ensures { result ≡ ip link frame.now 4 at (nat_eq k) }
 {
     if ethertype(link, frame, 0x0800) {
-        word_is(frame, net_offset(link), at, k)
+        word_is(frame, link.net_offset(), at, k)
     } else {
         false
     }
@@ -43,7 +43,7 @@ pub fn ip_word(link: LinkType, frame: &[u8], at: u32, k: u32) -> bool
 pub fn ip_class(link: LinkType, frame: &[u8], at: u32, k: u32) -> bool
     ensures { result ≡ ip link frame.now 4 at (λ w. nat_eq (w / 2 ^ 28) k) }
 {
-    let net = net_offset(link);
+    let net = link.net_offset();
     if ethertype(link, frame, 0x0800) {
         if has(frame, 4, net, at) {
             word_at(frame, net, at) / 0x1000_0000 == k
@@ -99,7 +99,7 @@ pub fn protocol(link: LinkType, frame: &[u8], proto: Proto) -> bool
 pub fn host4(link: LinkType, frame: &[u8], addr: u32, dir: Dir) -> bool
     ensures { result ≡ host4 link frame.now addr dir }
 {
-    let net = net_offset(link);
+    let net = link.net_offset();
     if ethertype(link, frame, 0x0800) {
         directed(
             dir,
@@ -115,7 +115,7 @@ pub fn host4(link: LinkType, frame: &[u8], addr: u32, dir: Dir) -> bool
 pub fn address4(link: LinkType, frame: &[u8], mask: u32, addr: u32, at: u32) -> bool
     ensures { result ≡ address4 link frame.now mask addr at }
 {
-    word_under(frame, net_offset(link), at, mask, addr)
+    word_under(frame, link.net_offset(), at, mask, addr)
 }
 
 pub fn net4(link: LinkType, frame: &[u8], net: IpNet, dir: Dir) -> bool
@@ -193,7 +193,7 @@ pub fn halves(link: LinkType, frame: &[u8], addr: Ipv6Addr, prefix: u8, at: u32)
 pub fn net6(link: LinkType, frame: &[u8], addr: Ipv6Addr, prefix: u8, dir: Dir) -> bool
     ensures { result ≡ net6 link frame.now addr prefix dir }
 {
-    let net = net_offset(link);
+    let net = link.net_offset();
     if ethertype(link, frame, 0x86dd) {
         directed(
             dir,

@@ -7,7 +7,7 @@ ghost use Rattle.meaning.specs.Meaning.{given, l4, ip, ip6, start4, start6, port
 use crate::ether::ethertype;
 use crate::frame::{byte_at, half_at, has};
 use crate::side::directed;
-use filter::ast::{Dir, LinkType, MaybeProto, Proto, net_offset};
+use filter::ast::{Dir, LinkType, Proto};
 
 fn given(proto: Proto, p: u8) -> bool
     ensures { result ≡ given proto p }
@@ -28,19 +28,19 @@ fn given(proto: Proto, p: u8) -> bool
     }
 }
 
-fn l4(proto: MaybeProto, p: u8) -> bool
+fn l4(proto: Option<Proto>, p: u8) -> bool
     ensures { result ≡ l4 proto p }
 {
     match proto {
-        MaybeProto::NoProto => if 6 == p { true } else { 17 == p },
-        MaybeProto::SomeProto(x) => given(x, p),
+        None => if 6 == p { true } else { 17 == p },
+        Some(x) => given(x, p),
     }
 }
 
-fn ip_l4(link: LinkType, frame: &[u8], proto: MaybeProto) -> bool
+fn ip_l4(link: LinkType, frame: &[u8], proto: Option<Proto>) -> bool
     ensures { result ≡ ip link frame.now 1 9 (l4 proto) }
 {
-    let net = net_offset(link);
+    let net = link.net_offset();
     if ethertype(link, frame, 0x0800) {
         if has(frame, 1, net, 9) {
             l4(proto, byte_at(frame, net, 9))
@@ -52,10 +52,10 @@ fn ip_l4(link: LinkType, frame: &[u8], proto: MaybeProto) -> bool
     }
 }
 
-fn ip6_l4(link: LinkType, frame: &[u8], proto: MaybeProto) -> bool
+fn ip6_l4(link: LinkType, frame: &[u8], proto: Option<Proto>) -> bool
     ensures { result ≡ ip6 link frame.now 1 6 (l4 proto) }
 {
-    let net = net_offset(link);
+    let net = link.net_offset();
     if ethertype(link, frame, 0x86dd) {
         if has(frame, 1, net, 6) {
             l4(proto, byte_at(frame, net, 6))
@@ -91,21 +91,21 @@ fn ports_at(link: LinkType, frame: &[u8], start: u32, lo: u16, hi: u16, dir: Dir
 pub fn start4(link: LinkType, frame: &[u8]) -> u32
     ensures { (result ≡ start4 link frame.now) × (result ≤ 76) }
 {
-    let net = net_offset(link);
+    let net = link.net_offset();
     net + 4 * ((byte_at(frame, net, 0) % 16) as u32)
 }
 
 fn start6(link: LinkType) -> u32
     ensures { result ≡ net_offset link + 40 }
 {
-    net_offset(link) + 40
+    link.net_offset() + 40
 }
 
-fn ports_ip(link: LinkType, frame: &[u8], lo: u16, hi: u16, dir: Dir, proto: MaybeProto) -> bool
+fn ports_ip(link: LinkType, frame: &[u8], lo: u16, hi: u16, dir: Dir, proto: Option<Proto>) -> bool
     ensures { result ≡ (ip link frame.now 1 9 (l4 proto) && (there frame.now 1 (net_offset link) && ports_at link frame.now (start4 link frame.now) dir (λ x. nat_le lo x && nat_le x hi))) }
 {
     if ip_l4(link, frame, proto) {
-        if has(frame, 1, net_offset(link), 0) {
+        if has(frame, 1, link.net_offset(), 0) {
             ports_at(link, frame, start4(link, frame), lo, hi, dir)
         } else {
             false
@@ -115,7 +115,7 @@ fn ports_ip(link: LinkType, frame: &[u8], lo: u16, hi: u16, dir: Dir, proto: May
     }
 }
 
-fn ports_ip6(link: LinkType, frame: &[u8], lo: u16, hi: u16, dir: Dir, proto: MaybeProto) -> bool
+fn ports_ip6(link: LinkType, frame: &[u8], lo: u16, hi: u16, dir: Dir, proto: Option<Proto>) -> bool
     ensures { result ≡ (ip6 link frame.now 1 6 (l4 proto) && ports_at link frame.now (start6 link frame.now) dir (λ x. nat_le lo x && nat_le x hi)) }
 {
     if ip6_l4(link, frame, proto) {
@@ -126,7 +126,7 @@ fn ports_ip6(link: LinkType, frame: &[u8], lo: u16, hi: u16, dir: Dir, proto: Ma
 }
 
 // A port from lo to hi, both included.
-pub fn ports(link: LinkType, frame: &[u8], lo: u16, hi: u16, dir: Dir, proto: MaybeProto) -> bool
+pub fn ports(link: LinkType, frame: &[u8], lo: u16, hi: u16, dir: Dir, proto: Option<Proto>) -> bool
     ensures { result ≡ ports link frame.now proto dir (λ x. nat_le lo x && nat_le x hi) }
 {
     if ports_ip(link, frame, lo, hi, dir, proto) {

@@ -2,16 +2,14 @@
 use Prim.Native.Nat.{ℕ, ◌+◌, ◌-◌, ◌*◌, ◌/◌, ◌%◌, ◌<◌, ◌≤◌}
 use mathlib.Core.Path.{◌≡◌, sym, ap, ◌∙◌}
 use mathlib.Core.List.{List, [], ◌∷◌, append-nil}
-use mathlib.Core.Bool.{Bool, true, false, cond}
+use mathlib.Core.Bool.{false}
 use native.Mathlib.Omega.{arith}
 use borrow.Author.Tests.{lt-ltb, le-ltb}
-use lib.Dec.{eqb}
 use lib.ListN.{length, take, drop, length-append, length-drop}
 use lib.Seq.{length-take-le}
-use Rattle.filter.specs.Sheet.{step_count, prim_count, token_count, sections_of, tokens_part}
+use Rattle.filter.specs.Sheet.{tokens_part}
 use Rattle.filter.specs.Written.{written}
-use Rattle.filter.specs.declared.sheet.Sections.TheVariants.{Found, Wrong}
-use Rattle.filter.proofs.Sheets.{sized}
+use Rattle.filter.proofs.Sheets.{found, sized}
 use Rattle.tree.specs.Tree.{Tree, flat, leaves, depth, tree_of}
 use Rattle.tree.proofs.Exact.{flat_whole}
 use Rattle.checks.specs.Check.{whole_of}
@@ -65,15 +63,6 @@ module _ (front ts : List ℕ) (output : ℕ) where
     unfolding roomed
     room_enough {k} n h room = rw (le-ltb 256 (depth (tree_of ts)) shallow, tokens_are, le-ltb 65535 s h, long, n, le-ltb output (k + s + 2) room)
 
--- The counts that are found are those that are read.
-pub found_counts : (s : List ℕ) {a b c : ℕ} → sections_of s ≡ Found a b c → (a ≡ step_count s) × (b ≡ prim_count s) × (c ≡ token_count s)
-unfolding sections_of
-found_counts s {a} {b} {c} = go (eqb (length s) (5 * step_count s + 24 * prim_count s + token_count s + 6))
-  where
-    go : (t : Bool) → cond t (Found (step_count s) (prim_count s) (token_count s)) Wrong ≡ Found a b c → (a ≡ step_count s) × (b ≡ prim_count s) × (c ≡ token_count s)
-    go true e = (cc, cc, cc)
-    go false e = let never : ◌≡◌ {A = ℕ} 0 1 = cc in absurd (omega arith)
-
 module _ (s : List ℕ) {a b c : ℕ} (t : Sorted s a b c) where
   pub tokens_length : length (tokens_part s a b c) ≡ c
   unfolding tokens_part
@@ -90,11 +79,11 @@ module _ (s : List ℕ) {a b c : ℕ} (t : Sorted s a b c) where
 
   pub tree_is : tree_in s ≡ tree_of (tokens_part s a b c)
   unfolding tree_in
-  tree_is = let n = found_counts s t.found in rw (← n.0, ← n.1, ← n.2)
+  tree_is = let n = found s t.found in rw (n.steps, n.prims, n.tokens)
 
   pub front_is : front_of s ≡ take (5 * a + 24 * b + 4) s
   unfolding front_of
-  front_is = let n = found_counts s t.found in rw (← n.0, ← n.1)
+  front_is = let n = found s t.found in rw (n.steps, n.prims)
 
   pub new_is : new_sheet s ≡ written (take (5 * a + 24 * b + 4) s) (flat (wanted_part (tree_of (tokens_part s a b c))))
   unfolding new_sheet

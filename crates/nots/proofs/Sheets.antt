@@ -8,14 +8,14 @@ use borrow.Author.Tests.{ltb-false, le-ltb}
 use lib.Dec.{ltb}
 use lib.ListN.{length, take, drop}
 use lib.Seq.{take-take, get_or-take, length-take-le, take_at}
+use Rattle.std.specs.Prelude.{Some}
 use Rattle.filter.specs.Ast.{link_of}
 use Rattle.filter.specs.Bytes.{be2}
 use Rattle.filter.specs.First.{first}
-use Rattle.filter.specs.Sheet.{step_count, prim_count, sections_of, steps_part, prims_part, tokens_part}
+use Rattle.filter.specs.Sheet.{counts, step_count, prim_count, sections_of, steps_part, prims_part, tokens_part}
 use Rattle.filter.specs.Written.{Front, written}
 use Rattle.filter.specs.declared.ast.LinkType.{LinkType}
-use Rattle.filter.specs.declared.sheet.Sections.TheVariants.{Found}
-use Rattle.filter.proofs.Sheets.{sized}
+use Rattle.filter.proofs.Sheets.{found, sized}
 use Rattle.filter.proofs.Written.{written_sections, written_steps, written_prims, written_tokens}
 use Rattle.tree.specs.Tree.{Tree, flat, leaves, depth, tree_of}
 use Rattle.tree.proofs.Prefix.{tree_flat}
@@ -29,7 +29,7 @@ use Rattle.nots.specs.Nots.{wanted_part, low_nots}
 use Rattle.nots.specs.Push.{tree_in, front_of, new_sheet, roomed, pushed, push_of, sheet_after}
 use Rattle.nots.specs.declared.Pushed.TheVariants.{Refused, Length}
 use Rattle.nots.proofs.Trees.{wanted_leaves, wanted_low, wanted_twice, wanted_depth, wanted_holds}
-use Rattle.nots.proofs.Rooms.{found_counts, one_tree, tree_is, front_is}
+use Rattle.nots.proofs.Rooms.{one_tree, tree_is, front_is}
 
 -- A part of a sheet's front is that part of the sheet.
 part_take : (i n k : ℕ) (l : List ℕ) → i + n ≤ k → take n (drop i (take k l)) ≡ take n (drop i l)
@@ -51,13 +51,13 @@ module _ (s : List ℕ) {a b c : ℕ} (t : Sorted s a b c) where
 
   front_steps : step_count front ≡ a
   unfolding step_count
-  front_steps = be2_take (5 * a + 24 * b + 4) 0 s (omega arith) ∙ sym (found_counts s t.found).0
+  front_steps = be2_take (5 * a + 24 * b + 4) 0 s (omega arith) ∙ (found s t.found).steps
 
   front_prims : prim_count front ≡ b
   unfolding prim_count
   front_prims =
       ap (λ (n : ℕ). be2 front (5 * n + 2)) front_steps ∙ be2_take (5 * a + 24 * b + 4) (5 * a + 2) s (omega arith)
-      ∙ ap (λ (n : ℕ). be2 s (5 * n + 2)) (found_counts s t.found).0 ∙ sym (found_counts s t.found).1
+      ∙ ap (λ (n : ℕ). be2 s (5 * n + 2)) (sym (found s t.found).steps) ∙ (found s t.found).prims
 
   front_long : length front ≡ 5 * a + 24 * b + 4
   front_long = length-take-le (5 * a + 24 * b + 4) s (omega (arith, sized s t.found))
@@ -69,7 +69,7 @@ module _ (s : List ℕ) {a b c : ℕ} (t : Sorted s a b c) where
   unfolding new_sheet
   new_written = rw (front_is s t)
 
-  new_found : sections_of (new_sheet s) ≡ Found a b (length (flat turned))
+  new_found : sections_of (new_sheet s) ≡ Some (counts a b (length (flat turned)))
   new_found = ap sections_of new_written ∙ written_sections front whole_front (flat turned) ∙ rw (front_steps, front_prims)
 
   new_steps : steps_part (new_sheet s) a ≡ steps_part s a

@@ -5,7 +5,7 @@ use mathlib.Core.List.{List, [], ◌++◌, append_assoc, append-nil}
 use native.Mathlib.Omega.{arith}
 use native.Mathlib.Numerals.{add-one}
 use lib.ListN.{length}
-use Rattle.tree.specs.declared.Shape.TheVariants.{Whole}
+use Rattle.std.specs.Prelude.{Some}
 use Rattle.tree.specs.Shape.{shape_of}
 use Rattle.tree.specs.Tokens.{count, is_jump}
 use Rattle.tree.specs.Tree.{Tree, flat, tree_of, leaves, jumps}
@@ -61,7 +61,7 @@ cost_flat tpl t =
     let e : cost tpl (flat t ++ []) 0 ≡ cost tpl (flat t) 0 = ap (λ ts. cost tpl ts 0) (append-nil (flat t)) in
     omega (arith, e, cost_tree tpl t [] 0, nil tpl (0 + leaves t))
 
-module _ (tpl : ℕ → Tpl) (ts : List ℕ) (n : ℕ) (whole : shape_of ts ≡ Whole n) where
+module _ (tpl : ℕ → Tpl) (ts : List ℕ) (n : ℕ) (whole : shape_of ts ≡ Some n) where
   tree : (t : Tree) × (flat t ≡ ts) × (leaves t ≡ n)
   tree = flat_whole ts n whole
 

@@ -1,6 +1,6 @@
 -- The pieces of code that primitives are made of, function by function of ebpf_codegen.rs: loads with guard, single checks, ethertype, dual-stack.
 -- A jump that the Rust resolves inside a primitive has its distance written here; one that it hands on is open.
-use Rattle.std.specs.Prelude.{ℕ, zero, suc, ◌+◌, ◌-◌, ◌*◌, ◌%◌, ◌^◌, ◌<◌, ◌≤◌, cond, List, [], ◌∷◌, ◌++◌, length, ◌==◌}
+use Rattle.std.specs.Prelude.{ℕ, zero, suc, ◌+◌, ◌-◌, ◌*◌, ◌%◌, ◌^◌, ◌<◌, ◌≤◌, cond, List, [], ◌∷◌, ◌++◌, length, ◌==◌, Option, Some, None}
 use Rattle.ebpf.specs.Opcode.{ADD, SUB, MUL, DIV, OR, AND, LSH, RSH, XOR, MOV, JMP, JMP32, JEQ, JNE, JGT, JGE, JLT, JLE, JSET, WORD, HALF, BYTE}
 use Rattle.ebpf.specs.Insn.{alu64_reg, alu64_imm, alu32_imm, to_be, ldx, jump_imm, jump_reg, jump_always}
 use Rattle.patches.specs.Code.{Slot, with_off}
@@ -9,8 +9,6 @@ use Rattle.patches.specs.Code.Slot.{fixed, success, failure}
 use Rattle.filter.specs.Ast.{ether_proto_offset, net_offset}
 use Rattle.filter.specs.Record.{step_at}
 use Rattle.filter.specs.declared.ast.LinkType.{LinkType}
-use Rattle.filter.specs.declared.ast.EtherOffset.{EtherOffset}
-use Rattle.filter.specs.declared.ast.EtherOffset.TheVariants.{At, Nowhere}
 use Rattle.filter.specs.declared.ast.Dir.{Dir}
 use Rattle.filter.specs.declared.ast.Dir.TheVariants.{SrcOrDst, Src, Dst, SrcAndDst}
 use Rattle.filter.specs.declared.ast.AccessSize.{AccessSize}
@@ -139,9 +137,9 @@ module _ (mode : ℕ) where
   emit_cmp BitAnd k = skips JSET k 1 ∷ failure (jump_always 0) ∷ []
 
   -- `emit_ethertype`: "RawIp emits nothing for ethertype 0x0800", and refuses the others.
-  abbrev pub ethertype_at_code : EtherOffset → ℕ → List Slot
-  ethertype_at_code (At off) et = check Half off et
-  ethertype_at_code Nowhere et = []
+  abbrev pub ethertype_at_code : Option ℕ → ℕ → List Slot
+  ethertype_at_code (Some off) et = check Half off et
+  ethertype_at_code None et = []
 
   unfoldable pub emit_ethertype : LinkType → ℕ → List Slot
   emit_ethertype link et = ethertype_at_code (ether_proto_offset link) et
@@ -154,12 +152,12 @@ module _ (mode : ℕ) where
   emit_ip6_l4 link next = emit_ethertype link 0x86dd ++ check Byte (net_offset link + 6) next
 
   -- `emit_dual_l4`: the ethertype decides between the two blocks.
-  abbrev pub dual_at : EtherOffset → LinkType → ℕ → List Slot
-  dual_at (At off) link proto =
+  abbrev pub dual_at : Option ℕ → LinkType → ℕ → List Slot
+  dual_at (Some off) link proto =
       emit_load Half off
       ++ (skips JEQ 0x0800 7 ∷ fails JNE 0x86dd
       ++ (check Byte (net_offset link + 6) proto ++ (fixed (jump_always 5) ∷ check Byte (net_offset link + 9) proto)))
-  dual_at Nowhere link proto = emit_ip4_l4 link proto
+  dual_at None link proto = emit_ip4_l4 link proto
 
   unfoldable pub emit_dual_l4 : LinkType → ℕ → List Slot
   emit_dual_l4 link proto = dual_at (ether_proto_offset link) link proto

@@ -2,20 +2,19 @@
 ghost use Rattle.std.specs.Prelude.{◌≡◌, ◌+◌};
 ghost use Rattle.patches.specs.Code.{em, block};
 ghost use Rattle.filter.specs.Ast.{net_offset};
-ghost use Rattle.filter.specs.declared.ast.EtherOffset.TheVariants.{At};
 ghost use Rattle.pieces.specs.Fragments.{Fits, emit_ethertype, emit_ip4_l4, emit_ip6_l4, dual_at, emit_dual_l4};
 
 use crate::guarded::{check, emit_load};
 use crate::load::{jeq, jne};
 use ebpf::insn::Insn;
-use filter::ast::{AccessSize, EtherOffset, LinkType, ether_proto_offset, net_offset};
+use filter::ast::{AccessSize, LinkType};
 use patches::{Patches, push_failure, push_jump};
 
 // So many bytes past the start of the network header.
 pub fn net_plus(link: LinkType, k: u8) -> u32
     ensures { result ≡ net_offset link + k }
 {
-    net_offset(link) + k as u32
+    link.net_offset() + k as u32
 }
 
 // `emit_ethertype`; on a link without one, IPv4 is implicit and the others are refused before.
@@ -30,9 +29,9 @@ pub fn emit_ethertype(
     requires { Fits (emit_ethertype mode link et) st }
     ensures { em out.new work.new result ≡ block (emit_ethertype mode link et) (em out.old work.old st) }
 {
-    match ether_proto_offset(link) {
-        EtherOffset::At(off) => check(out, work, st, mode, AccessSize::Half, off, et),
-        EtherOffset::Nowhere => st,
+    match link.ether_proto_offset() {
+        Some(off) => check(out, work, st, mode, AccessSize::Half, off, et),
+        None => st,
     }
 }
 
@@ -94,8 +93,8 @@ fn emit_dual_at(
     off: u32,
     proto: u32,
 ) -> Patches
-    requires { Fits (dual_at mode (At off) link proto) st }
-    ensures { em out.new work.new result ≡ block (dual_at mode (At off) link proto) (em out.old work.old st) }
+    requires { Fits (dual_at mode (Some off) link proto) st }
+    ensures { em out.new work.new result ≡ block (dual_at mode (Some off) link proto) (em out.old work.old st) }
 {
     let a = emit_load(out, work, st, AccessSize::Half, off);
     let b = push_jump(out, work, a, jeq(mode, 0x0800), 7);
@@ -133,8 +132,8 @@ pub fn emit_dual_l4(
     requires { Fits (emit_dual_l4 mode link proto) st }
     ensures { em out.new work.new result ≡ block (emit_dual_l4 mode link proto) (em out.old work.old st) }
 {
-    match ether_proto_offset(link) {
-        EtherOffset::At(off) => emit_dual_at(out, work, st, mode, link, off, proto),
-        EtherOffset::Nowhere => emit_ip4_l4(out, work, st, mode, link, proto),
+    match link.ether_proto_offset() {
+        Some(off) => emit_dual_at(out, work, st, mode, link, off, proto),
+        None => emit_ip4_l4(out, work, st, mode, link, proto),
     }
 }

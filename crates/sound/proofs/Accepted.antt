@@ -1,5 +1,5 @@
 -- What it means that `compile` accepts: the program that it made is the program by the tree, of an allowed sheet.
-use Prim.Native.Nat.{ℕ, ◌+◌, ◌*◌, ◌≤◌}
+use Prim.Native.Nat.{ℕ, ◌*◌, ◌≤◌}
 use mathlib.Core.Path.{◌≡◌, refl, ap, ◌∙◌}
 use mathlib.Core.Bool.{Bool, true, false, not, cond}
 use mathlib.Core.List.{List, ◌++◌}
@@ -12,10 +12,10 @@ use Rattle.ebpf.specs.declared.insn.Insn.{Insn}
 use Rattle.filter.specs.Ast.{link_of}
 use Rattle.filter.specs.First.{first}
 use Rattle.filter.specs.Record.{decode_at}
-use Rattle.filter.specs.Sheet.{step_count, prim_count, token_count, sections_of, steps_part, prims_part, tokens_part}
+use Rattle.filter.specs.Sheet.{step_count, prim_count, token_count, steps_part, prims_part, tokens_part}
 use Rattle.filter.specs.declared.ast.LinkType.{LinkType}
-use Rattle.filter.specs.declared.sheet.Sections.TheVariants.{Found, Wrong}
 use Rattle.filter.proofs.Firsts.{first_is}
+use Rattle.filter.proofs.Sheets.{found}
 use Rattle.tree.specs.Tree.{leaves, tree_of}
 use Rattle.checks.specs.Check.{steps_before, check_of}
 use Rattle.checks.specs.Length.{program_length}
@@ -91,15 +91,6 @@ made_of s link mode output work l = on_measured (admit_of s link mode output wor
     on_measured (measured.Refused n p) m e = let never : ◌≡◌ {A = ℕ} 0 1 = cc in absurd (omega arith)
     on_measured (measured.Length a b c k) m e = on_comp a b c k m _ refl e
 
--- The counts are the sheet's.
-found_counts : (s : List ℕ) (a b c : ℕ) → sections_of s ≡ Found a b c → (step_count s ≡ a) × (prim_count s ≡ b) × (token_count s ≡ c)
-unfolding sections_of
-found_counts s a b c = go (eqb (length s) (5 * step_count s + 24 * prim_count s + token_count s + 6))
-  where
-    go : (t : Bool) → cond t (Found (step_count s) (prim_count s) (token_count s)) Wrong ≡ Found a b c → (step_count s ≡ a) × (prim_count s ≡ b) × (token_count s ≡ c)
-    go true e = (cc, cc, cc)
-    go false e = let never : ◌≡◌ {A = ℕ} 0 1 = cc in absurd (omega arith)
-
 -- The first n of two lists, of which the first has n.
 front : (n : ℕ) (xs ys : List ℕ) → length xs ≡ n → take n (xs ++ ys) ≡ xs
 front n xs ys e = rw (← e) (take-append_seam xs ys)
@@ -149,7 +140,7 @@ accepted s link mode work l out byte e =
       b = m.b;
       c = m.c;
       checked = v.checked;
-      counts = found_counts s m.a m.b m.c t.found;
+      counts = (let f = found s t.found in (f.steps, f.prims, f.tokens));
       length_is = v.is;
       room = v.bytes;
       is = m.is;

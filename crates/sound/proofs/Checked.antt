@@ -1,23 +1,24 @@
 -- What a sheet satisfies once refusals 1 to 6 and 11 to 19 are past.
 use Prim.Native.Nat.{ℕ, zero, suc, ◌+◌, ◌-◌, ◌*◌, ◌^◌, ◌<◌, ◌≤◌}
 use mathlib.Core.Path.{◌≡◌, sym, ap, ◌∙◌}
-use mathlib.Core.Bool.{Bool, true, false, not, cond}
+use mathlib.Core.Bool.{Bool, true, false, not}
 use mathlib.Core.List.{List, [], ◌∷◌}
 use native.Mathlib.Omega.{arith}
 use borrow.Author.Tests.{ltb-false, eqb-true, not-false}
 use lib.Dec.{eqb, ltb}
 use lib.ListN.{length, get_or, take, drop}
 use lib.Seq.{get_or-drop}
+use Rattle.std.specs.Prelude.{Some}
 use Rattle.tree.specs.Tree.{leaves, flat, tree_of}
 use Rattle.tree.specs.Shape.{shape_of}
 use Rattle.tree.proofs.Prefix.{tree_flat}
 use Rattle.tree.proofs.Exact.{flat_whole}
 use Rattle.filter.specs.Ast.{link_of}
 use Rattle.filter.specs.First.{first}
-use Rattle.filter.specs.Sheet.{step_count, prim_count, token_count, sections_of, steps_part, prims_part, tokens_part}
+use Rattle.filter.specs.Sheet.{counts, step_count, prim_count, token_count, sections_of, steps_part, prims_part, tokens_part}
 use Rattle.filter.specs.declared.ast.LinkType.{LinkType}
-use Rattle.filter.specs.declared.sheet.Sections.TheVariants.{Found, Wrong}
 use Rattle.filter.proofs.Firsts.{first_lowest}
+use Rattle.filter.proofs.Sheets.{found}
 use Rattle.checks.specs.Check.{one_tree, far_offset, shift_at, check_of}
 use Rattle.checks.specs.declared.check.Checked.TheVariants.{Good}
 use Rattle.checks.specs.Refusal.{refusal_at}
@@ -78,20 +79,14 @@ sheet_allowed s link a b c byte e f =
     (part_byte (5 * a + 2 - 2) 2 s byte) (part_byte (5 * a + 24 * b + 4 - (5 * a + 4)) (5 * a + 4) s byte) (good s link e).parts f
 
 -- The counts have 16 bits.
-counts_low : (s : List ℕ) (a b c : ℕ) → ((p : ℕ) → get_or s p 0 < 256) → sections_of s ≡ Found a b c → (a < 65536) × (b < 65536) × (c < 65536)
-unfolding sections_of step_count prim_count token_count
-counts_low s a b c byte e = go (eqb (length s) (5 * step_count s + 24 * prim_count s + token_count s + 6)) e
-  where
-    go : (sized : Bool) → cond sized (Found (step_count s) (prim_count s) (token_count s)) Wrong ≡ Found a b c → (a < 65536) × (b < 65536) × (c < 65536)
-    go true q =
-        let e1 : step_count s ≡ a = cc in
-        let e2 : prim_count s ≡ b = cc in
-        let e3 : token_count s ≡ c = cc in (
-          omega (arith, e1, be2_low s byte 0),
-          omega (arith, e2, be2_low s byte (5 * step_count s + 2)),
-          omega (arith, e3, be2_low s byte (5 * step_count s + 24 * prim_count s + 4)),
-        )
-    go false q = let z : ◌≡◌ {A = ℕ} 0 1 = cc in absurd (omega arith)
+counts_low : (s : List ℕ) (a b c : ℕ) → ((p : ℕ) → get_or s p 0 < 256) → sections_of s ≡ Some (counts a b c) → (a < 65536) × (b < 65536) × (c < 65536)
+unfolding step_count prim_count token_count
+counts_low s a b c byte e =
+    let f = found s e in (
+      omega (arith, f.steps, be2_low s byte 0),
+      omega (arith, f.prims, be2_low s byte (5 * step_count s + 2)),
+      omega (arith, f.tokens, be2_low s byte (5 * step_count s + 24 * prim_count s + 4)),
+    )
 
 -- THEOREM: L of a checked sheet is below 2^32.
 pub sheet_short : (s : List ℕ) (link a b c : ℕ) → ((p : ℕ) → get_or s p 0 < 256) → check_of s link ≡ Good a b c

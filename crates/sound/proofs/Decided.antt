@@ -4,10 +4,9 @@ use mathlib.Core.Path.{◌≡◌, refl}
 use mathlib.Core.Bool.{Bool, true}
 use mathlib.Core.List.{List}
 use native.Mathlib.Omega.{arith}
+use Rattle.std.specs.Prelude.{Option, Some, None}
 use Rattle.codegen.specs.Primitives.{emit_mpls, access_rhs_code, emit_byte_access, emit_primitive}
 use Rattle.filter.specs.declared.ast.LinkType.{LinkType}
-use Rattle.filter.specs.declared.ast.MaybeLabel.{MaybeLabel}
-use Rattle.filter.specs.declared.ast.MaybeLabel.TheVariants.{NoLabel, SomeLabel}
 use Rattle.filter.specs.declared.ast.CmpRhs.{CmpRhs}
 use Rattle.filter.specs.declared.ast.CmpRhs.TheVariants.{Const, Load}
 use Rattle.filter.specs.declared.ast.ByteAccess as access
@@ -27,10 +26,10 @@ use Rattle.sound.proofs.Tags.{broadcast_means, multicast_means, mpls_means, mpls
 use Rattle.sound.proofs.Accesses.{fine_steps, near_offset, access_compared}
 use Rattle.sound.proofs.Primitives.{primitive_means}
 
-mpls_decides : {frame : List ℕ} {start : ℕ} → Frame frame start → (mode : ℕ) (link : LinkType) (label : MaybeLabel) → unless_ether link 15 ≡ 0
+mpls_decides : {frame : List ℕ} {start : ℕ} → Frame frame start → (mode : ℕ) (link : LinkType) (label : Option ℕ) → unless_ether link 15 ≡ 0
     → (q : Bool) × Means frame start (emit_mpls mode link label) q
-mpls_decides w mode link NoLabel e = (_, lands (mpls_means w mode link e))
-mpls_decides w mode link (SomeLabel n) e = (_, lands (mpls_label_means w link n e reads_something))
+mpls_decides w mode link None e = (_, lands (mpls_means w mode link e))
+mpls_decides w mode link (Some n) e = (_, lands (mpls_label_means w link n e reads_something))
 
 module _ {frame : List ℕ} {start : ℕ} (w : Frame frame start) (mode : ℕ) (link : LinkType) (steps : List ℕ) (j : ℕ) where
   access_decides : (x : access.ByteAccess) (rhs : CmpRhs) → Fine link steps j (ByteAccess x)

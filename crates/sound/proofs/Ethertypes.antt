@@ -6,11 +6,10 @@ use mathlib.Core.List.{List}
 use native.Mathlib.Omega.{arith}
 use borrow.Author.Tests.{eqb-true}
 use lib.Dec.{eqb}
+use Rattle.std.specs.Prelude.{Option, Some, None}
 use Rattle.pieces.specs.Fragments.{past, guard, load, emit_load, check, fails, ethertype_at_code, emit_ethertype, emit_ip4_l4, emit_ip6_l4, dual_at, emit_dual_l4}
 use Rattle.filter.specs.Ast.{ether_proto_offset, net_offset}
 use Rattle.filter.specs.declared.ast.LinkType.{LinkType}
-use Rattle.filter.specs.declared.ast.EtherOffset.{EtherOffset}
-use Rattle.filter.specs.declared.ast.EtherOffset.TheVariants.{At, Nowhere}
 use Rattle.filter.specs.declared.ast.AccessSize.TheVariants.{Byte, Half}
 use Rattle.checks.specs.Refusal.{etherless, unless_ether, ether_refusal}
 use Rattle.meaning.specs.Frame.{there, number, passes}
@@ -41,10 +40,10 @@ module _ {frame : List ℕ} {start : ℕ} (w : Frame frame start) (mode : ℕ) w
   unfolding emit_ethertype ethertype ether_refusal unless_ether bytes_of
   ethertype_means link et m r = go (ether_proto_offset link) (ether_low link) r
     where
-      go : (e : EtherOffset) → Low e → cond {A = ℕ} (eqb et 0x0800) 0 (etherless e 11) ≡ 0
+      go : (e : Option ℕ) → Low e → cond {A = ℕ} (eqb et 0x0800) 0 (etherless e 11) ≡ 0
           → Tests frame start (ethertype_at_code mode e et) (ethertype_at link frame e et)
-      go (At off) (below h) q = checks w Half off (reads_equal (takes_always mode (omega arith))) (omega arith)
-      go Nowhere absent q = decides no_code (sym (unrefused (eqb et 0x0800) q))
+      go (Some off) (below h) q = checks w Half off (reads_equal (takes_always mode (omega arith))) (omega arith)
+      go None absent q = decides no_code (sym (unrefused (eqb et 0x0800) q))
 
   pub is_ip : (link : LinkType) → Tests frame start (emit_ethertype mode link 0x0800) (ethertype link frame 0x0800)
   unfolding ether_refusal
@@ -80,10 +79,10 @@ module _ {frame : List ℕ} {start : ℕ} (w : Frame frame start) (mode : ℕ) w
   unfolding emit_dual_l4 dual_proto ip4_proto ip6_proto ip ip6 ethertype passes bytes_of check emit_load guard load fails past
   dual_means link proto m = go (ether_proto_offset link) refl (ether_low link)
     where
-      go : (e : EtherOffset) → ether_proto_offset link ≡ e → Low e → Tests frame start (dual_at mode e link proto)
+      go : (e : Option ℕ) → ether_proto_offset link ≡ e → Low e → Tests frame start (dual_at mode e link proto)
           ((ethertype_at link frame e 0x0800 && passes frame 1 (net_offset link + 9) (eqb proto))
           || (ethertype_at link frame e 0x86dd && passes frame 1 (net_offset link + 6) (eqb proto)))
-      go (At off) q (below h) =
+      go (Some off) q (below h) =
           let near = net_low link in
           let x : ℕ = number frame 2 off in
           let small = number_low w Half off in
@@ -93,4 +92,4 @@ module _ {frame : List ℕ} {start : ℕ} (w : Frame frame start) (mode : ℕ) w
           (two_ways (λ b. nothing) (reads_equal (takes_always mode {k = 0x0800} (omega arith))) small (ignores on4)
           (both (forgets (fails_unless_equal (reads_equal (takes_always mode {k = 0x86dd} (omega arith))) small)) (λ t. on6))))
           (by_ethertype (there frame 2 off) x (passes frame 1 (net_offset link + 9) (eqb proto)) (passes frame 1 (net_offset link + 6) (eqb proto)))
-      go Nowhere q absent = decides (ip4_means link proto m) (rw q (sym (or_false _)))
+      go None q absent = decides (ip4_means link proto m) (rw q (sym (or_false _)))

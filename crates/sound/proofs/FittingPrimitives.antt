@@ -6,6 +6,7 @@ use native.Mathlib.Omega.{arith}
 use lib.Dec.{leb}
 use lib.ListN.{get_or}
 use lib.Bits.{bit_and, and_le_l}
+use Rattle.std.specs.Prelude.{Option, Some, None}
 use Rattle.ebpf.specs.Opcode.{JNE, AND, LSH, RSH}
 use Rattle.ebpf.specs.Insn.{alu32_imm}
 use Rattle.patches.specs.Code.{Slot}
@@ -21,20 +22,12 @@ use Rattle.codegen.specs.Primitives.{vlan_id, emit_vlan, mpls_at, emit_mpls, ses
 use Rattle.filter.specs.Ast.{ether_proto_offset, net_offset}
 use Rattle.filter.specs.Record.{step_at}
 use Rattle.filter.specs.declared.ast.LinkType.{LinkType}
-use Rattle.filter.specs.declared.ast.EtherOffset.{EtherOffset}
-use Rattle.filter.specs.declared.ast.EtherOffset.TheVariants.{At, Nowhere}
 use Rattle.filter.specs.declared.ast.AccessSize.{AccessSize}
 use Rattle.filter.specs.declared.ast.AccessSize.TheVariants.{Byte, Half, Word}
 use Rattle.filter.specs.declared.ast.Dir.{Dir}
 use Rattle.filter.specs.declared.ast.Dir.TheVariants.{SrcOrDst, Src, Dst, SrcAndDst}
 use Rattle.filter.specs.declared.ast.Proto as protos
 use Rattle.filter.specs.declared.ast.Proto.TheVariants.{Ip, Ip6, Arp, Rarp, Tcp, Udp, Icmp, Icmp6, Igmp, Sctp, Num, Ip6Proto}
-use Rattle.filter.specs.declared.ast.MaybeProto.{MaybeProto}
-use Rattle.filter.specs.declared.ast.MaybeProto.TheVariants.{NoProto, SomeProto}
-use Rattle.filter.specs.declared.ast.MaybeId.{MaybeId}
-use Rattle.filter.specs.declared.ast.MaybeId.TheVariants.{NoId, SomeId}
-use Rattle.filter.specs.declared.ast.MaybeLabel.{MaybeLabel}
-use Rattle.filter.specs.declared.ast.MaybeLabel.TheVariants.{NoLabel, SomeLabel}
 use Rattle.filter.specs.declared.ast.Ipv6Addr.{Ipv6Addr}
 use Rattle.filter.specs.declared.ast.CmpOp.{CmpOp}
 use Rattle.filter.specs.declared.ast.CmpOp.TheVariants.{Eq, Ne, Lt, Le, Gt, Ge, BitAnd}
@@ -107,9 +100,9 @@ module _ (mode : ℕ) where
   unfolding emit_ethertype
   ethertype_fits link et l = go (ether_proto_offset link) (ether_low link)
     where
-      go : (e : EtherOffset) → Low e → FitSlots (ethertype_at_code mode e et)
-      go (At off) (below h) = check_fits Half off et (omega arith) (omega arith)
-      go Nowhere absent = no_slots
+      go : (e : Option ℕ) → Low e → FitSlots (ethertype_at_code mode e et)
+      go (Some off) (below h) = check_fits Half off et (omega arith) (omega arith)
+      go None absent = no_slots
 
   ip4_fits : (link : LinkType) (n : ℕ) → n < 256 → FitSlots (emit_ip4_l4 mode link n)
   unfolding emit_ip4_l4
@@ -125,13 +118,13 @@ module _ (mode : ℕ) where
   unfolding emit_dual_l4
   dual_fits link n l = go (ether_proto_offset link) (ether_low link)
     where
-      go : (e : EtherOffset) → Low e → FitSlots (dual_at mode e link n)
-      go (At off) (below h) =
+      go : (e : Option ℕ) → Low e → FitSlots (dual_at mode e link n)
+      go (Some off) (below h) =
           let near = net_low link in
           append_fits (emit_load_fits Half off (omega arith)) (append_fits (skips_fits _ 0x0800 7 (omega arith) (omega arith) (fails_fits _ 0x86dd (omega arith)))
           (append_fits (check_fits Byte (net_offset link + 6) n (omega arith) (omega arith))
           (fixed_fits _ _ _ _ _ (omega arith) (omega arith) (check_fits Byte (net_offset link + 9) n (omega arith) (omega arith)))))
-      go Nowhere absent = ip4_fits link n l
+      go None absent = ip4_fits link n l
 
   proto_fits : (link : LinkType) (x : protos.Proto) → FineProto x → FitSlots (emit_proto mode link x)
   unfolding emit_proto
@@ -247,34 +240,34 @@ module _ (mode : ℕ) where
     l4_number_low (Num n) = omega arith
     l4_number_low (Ip6Proto n) = omega arith
 
-    l4_fits : (off : ℕ) (proto : MaybeProto) → off < 2 ^ 15 → FitSlots (emit_l4_proto_check mode link off proto)
+    l4_fits : (off : ℕ) (proto : Option protos.Proto) → off < 2 ^ 15 → FitSlots (emit_l4_proto_check mode link off proto)
     unfolding emit_l4_proto_check
-    l4_fits off NoProto m = append_fits (emit_load_fits Byte off m) (skips_fits _ 6 1 (omega arith) (omega arith) (fails_fits _ 17 (omega arith)))
-    l4_fits off (SomeProto x) m = check_fits Byte off (l4_number mode link x) m (let low = l4_number_low x in omega arith)
+    l4_fits off None m = append_fits (emit_load_fits Byte off m) (skips_fits _ 6 1 (omega arith) (omega arith) (fails_fits _ 17 (omega arith)))
+    l4_fits off (Some x) m = check_fits Byte off (l4_number mode link x) m (let low = l4_number_low x in omega arith)
 
-    six_fits : (proto : MaybeProto) → FitSlots (prereqs_v6 mode link proto)
+    six_fits : (proto : Option protos.Proto) → FitSlots (prereqs_v6 mode link proto)
     unfolding prereqs_v6
     six_fits proto =
         let near = net_low link in
         append_fits (l4_fits (net_offset link + 6) proto (omega arith))
         (fixed_fits _ _ _ _ _ (omega arith) (omega arith) (fixed_fits _ _ _ _ _ (omega arith) (omega arith) (guard_fits 6 4 (omega arith))))
 
-    four_fits : (proto : MaybeProto) → FitSlots (prereqs_v4 mode link proto)
+    four_fits : (proto : Option protos.Proto) → FitSlots (prereqs_v4 mode link proto)
     unfolding prereqs_v4
     four_fits proto =
         let near = net_low link in
         append_fits (l4_fits (net_offset link + 9) proto (omega arith)) (append_fits transport_fits (guard_fits 6 4 (omega arith)))
 
     -- The two blocks are short.
-    six_short : (proto : MaybeProto) → past (prereqs_v6 mode link proto) 1 ≤ 100
+    six_short : (proto : Option protos.Proto) → past (prereqs_v6 mode link proto) 1 ≤ 100
     unfolding prereqs_v6 emit_l4_proto_check check emit_load guard load fails past
-    six_short NoProto = omega arith
-    six_short (SomeProto x) = omega arith
+    six_short None = omega arith
+    six_short (Some x) = omega arith
 
-    four_short : (proto : MaybeProto) → past (prereqs_v4 mode link proto) 0 ≤ 100
+    four_short : (proto : Option protos.Proto) → past (prereqs_v4 mode link proto) 0 ≤ 100
     unfolding prereqs_v4 transport emit_l4_proto_check check emit_load guard load fails past
-    four_short NoProto = omega arith
-    four_short (SomeProto x) = omega arith
+    four_short None = omega arith
+    four_short (Some x) = omega arith
 
     port_fits : (off port : ℕ) → off < 2 ^ 15 → port < 65536 → FitSlots (check_port mode link off port)
     unfolding check_port
@@ -304,48 +297,48 @@ module _ (mode : ℕ) where
     unfolding check_mac check emit_load guard load fails past
     mac_short off addr = omega arith
 
-  prereqs_fit : (link : LinkType) (proto : MaybeProto) → FitSlots (emit_port_prereqs mode link proto)
+  prereqs_fit : (link : LinkType) (proto : Option protos.Proto) → FitSlots (emit_port_prereqs mode link proto)
   unfolding emit_port_prereqs
   prereqs_fit link proto = go (ether_proto_offset link) (ether_low link)
     where
-      go : (e : EtherOffset) → Low e → FitSlots (prereqs_at mode link e proto)
-      go (At off) (below h) =
+      go : (e : Option ℕ) → Low e → FitSlots (prereqs_at mode link e proto)
+      go (Some off) (below h) =
           append_fits (emit_load_fits Half off (omega arith))
           (append_fits (skips_fits _ 0x0800 (suc (past (prereqs_v6 mode link proto) 1)) (omega arith) (let short = six_short link proto in omega arith)
           (fails_fits _ 0x86dd (omega arith)))
           (append_fits (six_fits link proto) (fixed_fits _ _ _ _ _ (let short = four_short link proto in omega arith) (omega arith) (four_fits link proto))))
-      go Nowhere absent = four_fits link proto
+      go None absent = four_fits link proto
 
-  vlan_fits : (link : LinkType) (id : MaybeId) → FineId id → FitSlots (emit_vlan mode link id)
+  vlan_fits : (link : LinkType) (id : Option ℕ) → FineId id → FitSlots (emit_vlan mode link id)
   unfolding emit_vlan
   vlan_fits link id f = append_fits (ethertype_fits link 0x8100 (omega arith)) (go (ether_proto_offset link) (ether_low link) id f)
     where
-      go : (e : EtherOffset) → Low e → (id : MaybeId) → FineId id → FitSlots (vlan_id mode link e id)
-      go (At off) (below h) NoId f = no_slots
-      go (At off) (below h) (SomeId n) f =
+      go : (e : Option ℕ) → Low e → (id : Option ℕ) → FineId id → FitSlots (vlan_id mode link e id)
+      go (Some off) (below h) None f = no_slots
+      go (Some off) (below h) (Some n) f =
           append_fits (emit_load_fits Half (off + 2) (omega arith)) (masked_fits link AND 0x0fff (omega arith) (fails_fits JNE n (omega arith)))
-      go Nowhere absent id f = no_slots
+      go None absent id f = no_slots
 
-  session_fits : (link : LinkType) (id : MaybeId) → FineId id → FitSlots (emit_pppoe_session mode link id)
+  session_fits : (link : LinkType) (id : Option ℕ) → FineId id → FitSlots (emit_pppoe_session mode link id)
   unfolding emit_pppoe_session
   session_fits link id f = append_fits (ethertype_fits link 0x8864 (omega arith)) (go (ether_proto_offset link) (ether_low link) id f)
     where
-      go : (e : EtherOffset) → Low e → (id : MaybeId) → FineId id → FitSlots (session_id mode link e id)
-      go (At off) (below h) NoId f = no_slots
-      go (At off) (below h) (SomeId n) f = check_fits Half (off + 4) n (omega arith) (omega arith)
-      go Nowhere absent id f = no_slots
+      go : (e : Option ℕ) → Low e → (id : Option ℕ) → FineId id → FitSlots (session_id mode link e id)
+      go (Some off) (below h) None f = no_slots
+      go (Some off) (below h) (Some n) f = check_fits Half (off + 4) n (omega arith) (omega arith)
+      go None absent id f = no_slots
 
-  label_fits : (link : LinkType) (label : MaybeLabel) → FineLabel label → FitSlots (emit_mpls mode link label)
+  label_fits : (link : LinkType) (label : Option ℕ) → FineLabel label → FitSlots (emit_mpls mode link label)
   unfolding emit_mpls
   label_fits link label f = go (ether_proto_offset link) (ether_low link) label f
     where
-      go : (e : EtherOffset) → Low e → (label : MaybeLabel) → FineLabel label → FitSlots (mpls_at mode link e label)
-      go (At off) (below h) NoLabel f =
+      go : (e : Option ℕ) → Low e → (label : Option ℕ) → FineLabel label → FitSlots (mpls_at mode link e label)
+      go (Some off) (below h) None f =
           append_fits (emit_load_fits Half off (omega arith)) (append_fits (skips_fits _ 0x8847 1 (omega arith) (omega arith) (fails_fits _ 0x8848 (omega arith))) no_slots)
-      go (At off) (below h) (SomeLabel n) f =
+      go (Some off) (below h) (Some n) f =
           append_fits (emit_load_fits Half off (omega arith)) (append_fits (skips_fits _ 0x8847 1 (omega arith) (omega arith) (fails_fits _ 0x8848 (omega arith)))
           (append_fits (emit_load_fits Word (off + 2) (omega arith)) (masked_fits link RSH 12 (omega arith) (fails_fits JNE n f))))
-      go Nowhere absent label f = no_slots
+      go None absent label f = no_slots
 
   module _ (link : LinkType) (steps : List ℕ) where
     steps_fit : (n j : ℕ) → ((p : ℕ) → get_or steps p 0 < 256) → FitSlots (emit_steps steps n j)

@@ -7,13 +7,14 @@ use mathlib.Core.Option.{Option, none, some}
 use native.Mathlib.Omega.{arith}
 use lib.Dec.{eqb, leb}
 use lib.ListN.{length}
+use Rattle.std.specs.Prelude as std
+use Rattle.filter.specs.declared.ast.Proto.{Proto}
 use Rattle.codegen.specs.Primitives.{check_port, check_ports, check_range, emit_port, emit_portrange}
 use Rattle.filter.specs.declared.ast.LinkType.{LinkType}
 use Rattle.filter.specs.declared.ast.Dir.{Dir}
 use Rattle.filter.specs.declared.ast.Dir.TheVariants.{SrcOrDst, Src, Dst, SrcAndDst}
 use Rattle.filter.specs.declared.ast.AccessSize.TheVariants.{Half}
 use Rattle.filter.specs.declared.ast.CmpOp.TheVariants.{Eq, Le, Ge}
-use Rattle.filter.specs.declared.ast.MaybeProto.{MaybeProto}
 use Rattle.checks.specs.Refusal.{port_refusal}
 use Rattle.meaning.specs.Frame.{number}
 use Rattle.meaning.specs.Meaning.{bytes_of, compared, directed, ports_at, ports}
@@ -58,7 +59,7 @@ module _ {frame : List ℕ} {start : ℕ} (w : Frame frame start) (mode : ℕ) (
         (λ q. forgets_four (both (fails_below (reads Ge (takes_always mode (omega arith))) low) (λ q. fails_above (reads Le (takes_always mode (omega arith))) low)))
 
   -- "All four port bytes must be there, even for one port."
-  pub port_tests : (port : ℕ) (dir : Dir) (proto : MaybeProto) → port < 65536 → port_refusal proto ≡ 0
+  pub port_tests : (port : ℕ) (dir : Dir) (proto : std.Option Proto) → port < 65536 → port_refusal proto ≡ 0
       → Means frame start (emit_port mode link port dir proto) (ports link frame proto dir (eqb port))
   unfolding emit_port ports ports_at
   port_tests port dir proto m e =
@@ -66,7 +67,7 @@ module _ {frame : List ℕ} {start : ℕ} (w : Frame frame start) (mode : ℕ) (
       decides (both h.comes (λ q. ports_mean h.place (h.room q) port dir (reads_equal (takes_always mode (omega arith)))))
       (h.exact (λ t. directed dir (eqb port (number frame 2 t)) (eqb port (number frame 2 (t + 2)))))
 
-  pub range_tests : (lo hi : ℕ) (dir : Dir) (proto : MaybeProto) → lo < 65536 → hi < 65536 → port_refusal proto ≡ 0
+  pub range_tests : (lo hi : ℕ) (dir : Dir) (proto : std.Option Proto) → lo < 65536 → hi < 65536 → port_refusal proto ≡ 0
       → Means frame start (emit_portrange mode link lo hi dir proto) (ports link frame proto dir (λ x. leb lo x && leb x hi))
   unfolding emit_portrange ports ports_at
   range_tests lo hi dir proto l l' e =

@@ -5,12 +5,11 @@ use mathlib.Core.Bool.{true}
 use mathlib.Core.List.{List}
 use native.Mathlib.Omega.{arith}
 use lib.Bits.{bit_and}
+use Rattle.std.specs.Prelude.{Option, Some, None}
 use Rattle.codegen.specs.Primitives.{emit_mpls, emit_proto, access_rhs_code, emit_byte_access, emit_primitive}
 use Rattle.filter.specs.declared.ast.LinkType.{LinkType}
 use Rattle.filter.specs.declared.ast.Proto as protos
 use Rattle.filter.specs.declared.ast.Proto.TheVariants.{Ip, Ip6, Arp, Rarp, Tcp, Udp, Icmp, Icmp6, Igmp, Sctp, Num, Ip6Proto}
-use Rattle.filter.specs.declared.ast.MaybeLabel.{MaybeLabel}
-use Rattle.filter.specs.declared.ast.MaybeLabel.TheVariants.{NoLabel, SomeLabel}
 use Rattle.filter.specs.declared.ast.CmpOp.{CmpOp}
 use Rattle.filter.specs.declared.ast.CmpOp.TheVariants.{Eq, Ne, Lt, Le, Gt, Ge, BitAnd}
 use Rattle.filter.specs.declared.ast.Layer as layers
@@ -74,11 +73,11 @@ module _ {frame : List ℕ} {start : ℕ} (w : Frame frame start) (mode : ℕ) (
   proto_means (Num n) f e = ip4_means w mode link n f
   proto_means (Ip6Proto n) f e = ip6_means w mode link n f e
 
-mpls_exact : {frame : List ℕ} {start : ℕ} → Frame frame start → (mode : ℕ) (link : LinkType) (label : MaybeLabel) → unless_ether link 15 ≡ 0
+mpls_exact : {frame : List ℕ} {start : ℕ} → Frame frame start → (mode : ℕ) (link : LinkType) (label : Option ℕ) → unless_ether link 15 ≡ 0
     → (mode ≡ 0 → small_label label ≡ true) → Tests frame start (emit_mpls mode link label) (mpls link frame label)
 unfolding mpls
-mpls_exact w mode link NoLabel e s = mpls_means w mode link e
-mpls_exact w mode link (SomeLabel n) e s = mpls_label_means w link n e (reads_equal (takes_small mode n s))
+mpls_exact w mode link None e s = mpls_means w mode link e
+mpls_exact w mode link (Some n) e s = mpls_label_means w link n e (reads_equal (takes_small mode n s))
 
 module _ {frame : List ℕ} {start : ℕ} (w : Frame frame start) (mode : ℕ) (link : LinkType) (steps : List ℕ) (j : ℕ) where
   access_means : (x : access.ByteAccess) (rhs : CmpRhs) → Fine link steps j (ByteAccess x) → FineRhs rhs

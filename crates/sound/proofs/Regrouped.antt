@@ -7,10 +7,11 @@ use native.Mathlib.Omega.{arith}
 use lib.Dec.{ltb}
 use lib.ListN.{length, drop, length-drop}
 use lib.Seq.{length-take-le, take_all}
+use Rattle.std.specs.Prelude.{Some}
 use Rattle.filter.specs.Ast.{link_of}
-use Rattle.filter.specs.Sheet.{step_count, prim_count, steps_part, prims_part, tokens_part}
+use Rattle.filter.specs.Sheet.{counts, step_count, prim_count, steps_part, prims_part, tokens_part}
+use Rattle.filter.specs.declared.sheet.Counts.{Counts}
 use Rattle.filter.specs.Written.{Front, written}
-use Rattle.filter.specs.declared.sheet.Sections.TheVariants.{Found}
 use Rattle.filter.proofs.Sheets.{sized}
 use Rattle.filter.proofs.Written.{written_sections, written_steps, written_prims, written_tokens}
 use Rattle.tree.specs.Tokens.{count, is_jump}
@@ -137,9 +138,9 @@ refused_is s link mode output work n p e = rw e (go (ltb 1 mode))
 written_good : (front : List ℕ) → Front front → (tokens : List ℕ) (link a b c : ℕ) → check_of (written front tokens) link ≡ check.Good a b c
     → check_of (written front tokens) link ≡ check.Good (step_count front) (prim_count front) (length tokens)
 written_good front whole tokens link a b c e =
-    let f : Found a b c ≡ Found (step_count front) (prim_count front) (length tokens) = sym (good (written front tokens) link e).found ∙ written_sections front whole tokens in
-    let g : check.Good a b c ≡ check.Good (step_count front) (prim_count front) (length tokens) = cc in
-    e ∙ g
+    let f : Some (counts a b c) ≡ Some (counts (step_count front) (prim_count front) (length tokens)) = sym (good (written front tokens) link e).found ∙ written_sections front whole tokens in
+    let n : counts a b c ≡ counts (step_count front) (prim_count front) (length tokens) = cc in
+    e ∙ ap (λ (k : Counts). check.Good k.steps k.prims k.tokens) n
 
 -- Two sheets written with the same steps and primitives, past refusals 1 to 6.
 pub same_but_tree : (front : List ℕ) → Front front → (ts us : List ℕ) (link a b c a' b' c' : ℕ)

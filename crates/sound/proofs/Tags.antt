@@ -9,6 +9,7 @@ use borrow.Author.Tests.{eqb-true, eqb-false, eq-eqb, ne_eqb}
 use lib.Dec.{eqb}
 use lib.ListN.{length}
 use lib.Bits.{bit_and, and_mask, and_block, and_zero_r}
+use Rattle.std.specs.Prelude.{Option, Some, None}
 use Rattle.ebpf.specs.Opcode.{RSH, MOV, SUB, JEQ, JNE}
 use Rattle.ebpf.specs.Insn.{alu32_imm, alu64_reg}
 use Rattle.ebpf.specs.Alu.{alu32}
@@ -18,12 +19,7 @@ use Rattle.pieces.specs.Fragments.{emit_load, emit_cmp, fails, skips}
 use Rattle.codegen.specs.Primitives.{emit_ether_multicast, emit_ip_broadcast, emit_ip_multicast, emit_ip6_multicast, vlan_id, emit_vlan, mpls_at, emit_mpls, session_id, emit_pppoe_session, emit_len}
 use Rattle.filter.specs.Ast.{ether_proto_offset, net_offset}
 use Rattle.filter.specs.declared.ast.LinkType.{LinkType}
-use Rattle.filter.specs.declared.ast.EtherOffset.{EtherOffset}
-use Rattle.filter.specs.declared.ast.EtherOffset.TheVariants.{At, Nowhere}
 use Rattle.filter.specs.declared.ast.AccessSize.TheVariants.{Byte, Half, Word}
-use Rattle.filter.specs.declared.ast.MaybeId.{MaybeId}
-use Rattle.filter.specs.declared.ast.MaybeId.TheVariants.{NoId, SomeId}
-use Rattle.filter.specs.declared.ast.MaybeLabel.TheVariants.{NoLabel, SomeLabel}
 use Rattle.filter.specs.declared.ast.CmpOp.{CmpOp}
 use Rattle.filter.specs.declared.ast.CmpOp.TheVariants.{Eq, BitAnd}
 use Rattle.checks.specs.Refusal.{etherless, unless_ether, ether_refusal}
@@ -113,43 +109,43 @@ module _ {frame : List ℕ} {start : ℕ} (w : Frame frame start) where
         (λ t. checks w Byte (net_offset link + 24) (reads_equal (takes_always mode (omega arith))) (omega arith))
 
   -- "Vlan: 0x8100, low 12 bits of the half at 14": of the half behind the ethertype, where there is one.
-  vlan_tag : (mode : ℕ) (link : LinkType) (n : ℕ) → n < 65536 → (e : EtherOffset) → Low e → etherless e 11 ≡ 0
-      → Tests frame start (vlan_id mode link e (SomeId n)) (tagged_at link frame e 2 2 (λ h. eqb n (h % 4096)))
+  vlan_tag : (mode : ℕ) (link : LinkType) (n : ℕ) → n < 65536 → (e : Option ℕ) → Low e → etherless e 11 ≡ 0
+      → Tests frame start (vlan_id mode link e (Some n)) (tagged_at link frame e 2 2 (λ h. eqb n (h % 4096)))
   unfolding passes bytes_of
-  vlan_tag mode link n m (At off) (below h) r =
+  vlan_tag mode link n m (Some off) (below h) r =
       decides (changed_field w (reads_equal (takes_always mode (omega arith))) (masks 0x0fff (omega arith)) Half (off + 2) (omega arith))
       (rw (and_mask (number frame 2 (off + 2)) 12))
-  vlan_tag mode link n m Nowhere absent r = absurd (omega arith)
+  vlan_tag mode link n m None absent r = absurd (omega arith)
 
-  no_vlan_tag : (mode : ℕ) (link : LinkType) (e : EtherOffset) → Tests frame start (vlan_id mode link e NoId) true
-  no_vlan_tag mode link (At off) = no_code
-  no_vlan_tag mode link Nowhere = no_code
+  no_vlan_tag : (mode : ℕ) (link : LinkType) (e : Option ℕ) → Tests frame start (vlan_id mode link e None) true
+  no_vlan_tag mode link (Some off) = no_code
+  no_vlan_tag mode link None = no_code
 
-  pub vlan_means : (mode : ℕ) (link : LinkType) (id : MaybeId) → FineId id → ether_refusal link 0x8100 ≡ 0
+  pub vlan_means : (mode : ℕ) (link : LinkType) (id : Option ℕ) → FineId id → ether_refusal link 0x8100 ≡ 0
       → Tests frame start (emit_vlan mode link id) (vlan link frame id)
   unfolding emit_vlan vlan tagged ether_refusal unless_ether
-  vlan_means mode link NoId m r =
+  vlan_means mode link None m r =
       decides (both (ethertype_means w mode link 0x8100 (omega arith) r) (λ t. no_vlan_tag mode link (ether_proto_offset link))) (and_true _)
-  vlan_means mode link (SomeId n) m r =
+  vlan_means mode link (Some n) m r =
       both (ethertype_means w mode link 0x8100 (omega arith) r) (λ t. vlan_tag mode link n m (ether_proto_offset link) (ether_low link) r)
 
   -- "PPPoE session: 0x8864, half at 16".
-  session_tag : (mode : ℕ) (link : LinkType) (n : ℕ) → n < 65536 → (e : EtherOffset) → Low e → etherless e 11 ≡ 0
-      → Tests frame start (session_id mode link e (SomeId n)) (tagged_at link frame e 2 4 (eqb n))
+  session_tag : (mode : ℕ) (link : LinkType) (n : ℕ) → n < 65536 → (e : Option ℕ) → Low e → etherless e 11 ≡ 0
+      → Tests frame start (session_id mode link e (Some n)) (tagged_at link frame e 2 4 (eqb n))
   unfolding bytes_of
-  session_tag mode link n m (At off) (below h) r = checks w Half (off + 4) (reads_equal (takes_always mode (omega arith))) (omega arith)
-  session_tag mode link n m Nowhere absent r = absurd (omega arith)
+  session_tag mode link n m (Some off) (below h) r = checks w Half (off + 4) (reads_equal (takes_always mode (omega arith))) (omega arith)
+  session_tag mode link n m None absent r = absurd (omega arith)
 
-  no_session_tag : (mode : ℕ) (link : LinkType) (e : EtherOffset) → Tests frame start (session_id mode link e NoId) true
-  no_session_tag mode link (At off) = no_code
-  no_session_tag mode link Nowhere = no_code
+  no_session_tag : (mode : ℕ) (link : LinkType) (e : Option ℕ) → Tests frame start (session_id mode link e None) true
+  no_session_tag mode link (Some off) = no_code
+  no_session_tag mode link None = no_code
 
-  pub pppoe_means : (mode : ℕ) (link : LinkType) (id : MaybeId) → FineId id → ether_refusal link 0x8864 ≡ 0
+  pub pppoe_means : (mode : ℕ) (link : LinkType) (id : Option ℕ) → FineId id → ether_refusal link 0x8864 ≡ 0
       → Tests frame start (emit_pppoe_session mode link id) (pppoe link frame id)
   unfolding emit_pppoe_session pppoe tagged ether_refusal unless_ether
-  pppoe_means mode link NoId m r =
+  pppoe_means mode link None m r =
       decides (both (ethertype_means w mode link 0x8864 (omega arith) r) (λ t. no_session_tag mode link (ether_proto_offset link))) (and_true _)
-  pppoe_means mode link (SomeId n) m r =
+  pppoe_means mode link (Some n) m r =
       both (ethertype_means w mode link 0x8864 (omega arith) r) (λ t. session_tag mode link n m (ether_proto_offset link) (ether_low link) r)
 
   -- "MPLS: 0x8847 or 0x8848", before whatever is asked of the label.
@@ -168,25 +164,25 @@ module _ {frame : List ℕ} {start : ℕ} (w : Frame frame start) where
   shifts_down = record { makes = λ x l. computes (rsh32 (omega arith)) l; stays_low = λ x l. omega arith }
 
   -- "top 20 bits of the word at 14": of the word behind the ethertype, where there is one.
-  pub mpls_means : (mode : ℕ) (link : LinkType) → unless_ether link 15 ≡ 0 → Tests frame start (emit_mpls mode link NoLabel) (mpls link frame NoLabel)
+  pub mpls_means : (mode : ℕ) (link : LinkType) → unless_ether link 15 ≡ 0 → Tests frame start (emit_mpls mode link None) (mpls link frame None)
   unfolding emit_mpls mpls ethertype unless_ether
   mpls_means mode link r = go (ether_proto_offset link) (ether_low link) r
     where
-      go : (e : EtherOffset) → Low e → etherless e 15 ≡ 0
-          → Tests frame start (mpls_at mode link e NoLabel) (ethertype_at link frame e 0x8847 || ethertype_at link frame e 0x8848)
-      go (At off) (below h) q = decides (mpls_type mode off h no_code) (and_true _)
-      go Nowhere absent q = absurd (omega arith)
+      go : (e : Option ℕ) → Low e → etherless e 15 ≡ 0
+          → Tests frame start (mpls_at mode link e None) (ethertype_at link frame e 0x8847 || ethertype_at link frame e 0x8848)
+      go (Some off) (below h) q = decides (mpls_type mode off h no_code) (and_true _)
+      go None absent q = absurd (omega arith)
 
   pub mpls_label_means : {mode : ℕ} {test : ℕ → Bool} (link : LinkType) (label : ℕ) → unless_ether link 15 ≡ 0 → Reads mode Eq label test
-      → Tests frame start (emit_mpls mode link (SomeLabel label))
+      → Tests frame start (emit_mpls mode link (Some label))
       ((ethertype link frame 0x8847 || ethertype link frame 0x8848) && tagged link frame 4 2 (λ x. test (x / 4096)))
   unfolding emit_mpls ethertype tagged bytes_of unless_ether
   mpls_label_means {mode} {test} link label r reads = go (ether_proto_offset link) (ether_low link) r
     where
-      go : (e : EtherOffset) → Low e → etherless e 15 ≡ 0 → Tests frame start (mpls_at mode link e (SomeLabel label))
+      go : (e : Option ℕ) → Low e → etherless e 15 ≡ 0 → Tests frame start (mpls_at mode link e (Some label))
           ((ethertype_at link frame e 0x8847 || ethertype_at link frame e 0x8848) && tagged_at link frame e 4 2 (λ x. test (x / 4096)))
-      go (At off) (below h) q = mpls_type mode off h (changed_field w reads shifts_down Word (off + 2) (omega arith))
-      go Nowhere absent q = absurd (omega arith)
+      go (Some off) (below h) q = mpls_type mode off h (changed_field w reads shifts_down Word (off + 2) (omega arith))
+      go None absent q = absurd (omega arith)
 
   -- The length: R3 less R2.
   pub len_means : {mode k : ℕ} {test : ℕ → Bool} (link : LinkType) (op : CmpOp) → Reads mode op k test

@@ -10,6 +10,8 @@ use borrow.Author.Tests.{leb-true}
 use lib.Dec.{eqb}
 use lib.ListN.{length}
 use lib.Bits.{and_mask}
+use Rattle.std.specs.Prelude.{Option, Some, None}
+use Rattle.filter.specs.declared.ast.Proto.{Proto}
 use Rattle.ebpf.specs.Opcode.{ADD, AND, LSH, MOV}
 use Rattle.ebpf.specs.Insn.{alu32_imm, alu64_imm, alu64_reg}
 use Rattle.ebpf.specs.Alu.{alu32}
@@ -18,12 +20,8 @@ use Rattle.pieces.specs.Fragments.{past, transport, fails}
 use Rattle.codegen.specs.Primitives.{emit_l4_proto_check, prereqs_v4, prereqs_v6, emit_port_prereqs}
 use Rattle.filter.specs.Ast.{ether_proto_offset, net_offset}
 use Rattle.filter.specs.declared.ast.LinkType.{LinkType}
-use Rattle.filter.specs.declared.ast.EtherOffset.{EtherOffset}
-use Rattle.filter.specs.declared.ast.EtherOffset.TheVariants.{At, Nowhere}
 use Rattle.filter.specs.declared.ast.AccessSize.TheVariants.{Byte, Half}
 use Rattle.filter.specs.declared.ast.Proto.TheVariants.{Ip, Ip6, Arp, Rarp, Tcp, Udp, Icmp, Icmp6, Igmp, Sctp, Num, Ip6Proto}
-use Rattle.filter.specs.declared.ast.MaybeProto.{MaybeProto}
-use Rattle.filter.specs.declared.ast.MaybeProto.TheVariants.{NoProto, SomeProto}
 use Rattle.checks.specs.Refusal.{port_refusal, l4_refusal}
 use Rattle.meaning.specs.Frame.{there, number, passes}
 use Rattle.meaning.specs.Meaning.{bytes_of, l4, given, ethertype, ip, ip6, start4, start6}
@@ -81,26 +79,26 @@ module _ {frame : List ℕ} {start : ℕ} (w : Frame frame start) where
       (λ t. to_header (net_offset link) (number frame 1 (net_offset link)) near (number1_low w (net_offset link)))) (and_true _)
 
   -- `emit_l4_proto_check`: "protocol as given or, with none, 6 or 17."
-  l4_means : (mode : ℕ) (link : LinkType) (off : ℕ) (proto : MaybeProto) → port_refusal proto ≡ 0 → off < 2 ^ 15
+  l4_means : (mode : ℕ) (link : LinkType) (off : ℕ) (proto : Option Proto) → port_refusal proto ≡ 0 → off < 2 ^ 15
       → Tests frame start (emit_l4_proto_check mode link off proto) (passes frame 1 off (l4 proto))
   unfolding emit_l4_proto_check l4 given passes bytes_of port_refusal l4_refusal
-  l4_means mode link off NoProto e m =
+  l4_means mode link off None e m =
       field w Byte off m (forgets (equal_either (reads_equal (takes_always mode {k = 6} (omega arith)))
       (reads_equal (takes_always mode {k = 17} (omega arith))) (number_low w Byte off)))
-  l4_means mode link off (SomeProto Tcp) e m = checks w Byte off (reads_equal (takes_always mode (omega arith))) m
-  l4_means mode link off (SomeProto Udp) e m = checks w Byte off (reads_equal (takes_always mode (omega arith))) m
-  l4_means mode link off (SomeProto Sctp) e m = checks w Byte off (reads_equal (takes_always mode (omega arith))) m
-  l4_means mode link off (SomeProto Ip) e m = absurd (omega arith)
-  l4_means mode link off (SomeProto Ip6) e m = absurd (omega arith)
-  l4_means mode link off (SomeProto Arp) e m = absurd (omega arith)
-  l4_means mode link off (SomeProto Rarp) e m = absurd (omega arith)
-  l4_means mode link off (SomeProto Icmp) e m = absurd (omega arith)
-  l4_means mode link off (SomeProto Icmp6) e m = absurd (omega arith)
-  l4_means mode link off (SomeProto Igmp) e m = absurd (omega arith)
-  l4_means mode link off (SomeProto (Num n)) e m = absurd (omega arith)
-  l4_means mode link off (SomeProto (Ip6Proto n)) e m = absurd (omega arith)
+  l4_means mode link off (Some Tcp) e m = checks w Byte off (reads_equal (takes_always mode (omega arith))) m
+  l4_means mode link off (Some Udp) e m = checks w Byte off (reads_equal (takes_always mode (omega arith))) m
+  l4_means mode link off (Some Sctp) e m = checks w Byte off (reads_equal (takes_always mode (omega arith))) m
+  l4_means mode link off (Some Ip) e m = absurd (omega arith)
+  l4_means mode link off (Some Ip6) e m = absurd (omega arith)
+  l4_means mode link off (Some Arp) e m = absurd (omega arith)
+  l4_means mode link off (Some Rarp) e m = absurd (omega arith)
+  l4_means mode link off (Some Icmp) e m = absurd (omega arith)
+  l4_means mode link off (Some Icmp6) e m = absurd (omega arith)
+  l4_means mode link off (Some Igmp) e m = absurd (omega arith)
+  l4_means mode link off (Some (Num n)) e m = absurd (omega arith)
+  l4_means mode link off (Some (Ip6Proto n)) e m = absurd (omega arith)
 
-  module _ (mode : ℕ) (link : LinkType) (proto : MaybeProto) (e : port_refusal proto ≡ 0) where
+  module _ (mode : ℕ) (link : LinkType) (proto : Option Proto) (e : port_refusal proto ≡ 0) where
     -- The block of IPv4, and the block of IPv6.
     four_comes : Piece frame start falls nothing (knows none (some (start + start4 link frame))) nothing (prereqs_v4 mode link proto)
         (passes frame 1 (net_offset link + 9) (l4 proto) && (there frame 1 (net_offset link) && there frame 4 (start4 link frame)))
@@ -148,7 +146,7 @@ module _ {frame : List ℕ} {start : ℕ} (w : Frame frame start) where
   four_there at e = leb-true (at + 4) (length frame) e
 
   -- "IPv4 or IPv6 (RawIp: IPv4 only)": the transport header that ports stand in.
-  pub header_comes : (mode : ℕ) (link : LinkType) (proto : MaybeProto) → port_refusal proto ≡ 0 → Header frame start mode link proto
+  pub header_comes : (mode : ℕ) (link : LinkType) (proto : Option Proto) → port_refusal proto ≡ 0 → Header frame start mode link proto
   unfolding emit_port_prereqs ip ip6 ethertype passes bytes_of past fails
   header_comes mode link proto r = go (ether_proto_offset link) refl (ether_low link)
     where
@@ -167,8 +165,8 @@ module _ {frame : List ℕ} {start : ℕ} (w : Frame frame start) where
       b : Bool
       b = there frame 1 (net_offset link)
 
-      go : (e : EtherOffset) → ether_proto_offset link ≡ e → Low e → Header frame start mode link proto
-      go (At off) q (below h) =
+      go : (e : Option ℕ) → ether_proto_offset link ≡ e → Low e → Header frame start mode link proto
+      go (Some off) q (below h) =
           let x : ℕ = number frame 2 off in
           let small = number_low w Half off in
           record {
@@ -181,7 +179,7 @@ module _ {frame : List ℕ} {start : ℕ} (w : Frame frame start) where
             exact = λ test. rw q (by_block (there frame 2 off) (eqb 0x0800 x) (eqb 0x86dd x) p b (there frame 4 s) p' (there frame 4 s') test s s'
                 (not_both 0x0800 0x86dd x refl));
           }
-      go Nowhere q absent =
+      go None q absent =
           record {
             place = s;
             found = p && (b && there frame 4 s);

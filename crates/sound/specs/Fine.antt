@@ -1,15 +1,11 @@
 -- What a primitive that comes from a checked sheet satisfies: its numbers are in range, and refusals 5 and 6 do not meet it.
-use Rattle.std.specs.Prelude.{ℕ, zero, suc, ◌*◌, ◌^◌, ◌<◌, false, get_or, ◌≡◌, List}
+use Rattle.std.specs.Prelude.{ℕ, zero, suc, ◌*◌, ◌^◌, ◌<◌, false, get_or, ◌≡◌, List, Option, Some, None}
 use Rattle.checks.specs.Check.{far, big_shift}
 use Rattle.filter.specs.First.{any}
 use Rattle.filter.specs.Record.{step_at}
 use Rattle.filter.specs.declared.ast.LinkType.{LinkType}
 use Rattle.filter.specs.declared.ast.Proto as protos
 use Rattle.filter.specs.declared.ast.Proto.TheVariants.{Ip, Ip6, Arp, Rarp, Tcp, Udp, Icmp, Icmp6, Igmp, Sctp, Num, Ip6Proto}
-use Rattle.filter.specs.declared.ast.MaybeId.{MaybeId}
-use Rattle.filter.specs.declared.ast.MaybeId.TheVariants.{NoId, SomeId}
-use Rattle.filter.specs.declared.ast.MaybeLabel.{MaybeLabel}
-use Rattle.filter.specs.declared.ast.MaybeLabel.TheVariants.{NoLabel, SomeLabel}
 use Rattle.filter.specs.declared.ast.Ipv6Addr.{Ipv6Addr}
 use Rattle.filter.specs.declared.ast.CmpRhs.{CmpRhs}
 use Rattle.filter.specs.declared.ast.CmpRhs.TheVariants.{Const, Load}
@@ -50,13 +46,13 @@ FineProto Sctp = Unit {0}
 FineProto (Num n) = n < 256
 FineProto (Ip6Proto n) = n < 256
 
-abbrev pub FineId : MaybeId → Type 0
-FineId NoId = Unit {0}
-FineId (SomeId n) = n < 65536
+abbrev pub FineId : Option ℕ → Type 0
+FineId None = Unit {0}
+FineId (Some n) = n < 65536
 
-abbrev pub FineLabel : MaybeLabel → Type 0
-FineLabel NoLabel = Unit {0}
-FineLabel (SomeLabel n) = n < 2 ^ 32
+abbrev pub FineLabel : Option ℕ → Type 0
+FineLabel None = Unit {0}
+FineLabel (Some n) = n < 2 ^ 32
 
 abbrev pub FineAddr6 : Ipv6Addr → Type 0
 FineAddr6 addr = (addr.hi < 2 ^ 64) × (addr.lo < 2 ^ 64)

@@ -8,8 +8,7 @@ use native.Mathlib.Omega.{arith}
 use native.Mathlib.Nat.{add_assoc}
 use borrow.Author.Tests.{lt-ltb}
 use lib.Dec.{ltb}
-use Rattle.tree.specs.declared.Shape.{Shape}
-use Rattle.tree.specs.declared.Shape.TheVariants.{Whole, Broken}
+use Rattle.std.specs.Prelude.{Option, Some, None}
 use Rattle.tree.specs.Shape.{scan, shape_of, wanted, met_by}
 use Rattle.tree.specs.Tokens.{count, is_primitive}
 use Rattle.tree.specs.Tree.{Tree, flat, leaves}
@@ -38,14 +37,14 @@ scan_flat (or a b) rest others met = both a b rest others met (scan_flat a) (sca
 scan_flat (inv a) rest others met = scan_flat a rest others met
 
 -- A tree's tokens are one whole tree, with the tree's primitives.
-pub whole_flat : (t : Tree) → shape_of (flat t) ≡ Whole (leaves t)
+pub whole_flat : (t : Tree) → shape_of (flat t) ≡ Some (leaves t)
 unfolding shape_of scan
 whole_flat t =
     let none : 0 + leaves t ≡ leaves t = omega arith in
-    rw (← append-nil (flat t)) (scan_flat t [] 0 0 ∙ ap Whole none)
+    rw (← append-nil (flat t)) (scan_flat t [] 0 0 ∙ ap Some none)
 
 -- An answer is not both.
-broken : {n : ℕ} → Broken ≡ Whole n → ⊥
+broken : {n : ℕ} → None ≡ Some n → ⊥
 broken e = let clash : ◌≡◌ {A = ℕ} 0 1 = cc in omega arith
 
 -- The tokens of w trees one after another, n primitives being met at their end when m were met before them.
@@ -71,7 +70,7 @@ unfolding flat leaves
 grow_or (tree a (tree b f)) = rw (← append_assoc) (tree (or a b) (rw add_assoc at f))
 
 -- What the scan takes is a forest.
-scan_forest : (ts : List ℕ) (w m n : ℕ) → scan ts w m ≡ Whole n → Forest n ts w m
+scan_forest : (ts : List ℕ) (w m n : ℕ) → scan ts w m ≡ Some n → Forest n ts w m
 unfolding scan wanted met_by
 scan_forest [] zero m n e = let same : m ≡ n = cc in none same
 scan_forest [] (suc w) m n e = absurd (broken e)
@@ -85,7 +84,7 @@ scan_forest (suc (suc (suc (suc t))) ∷ ts) (suc w) m n e =
     absurd (broken (rw above at e))
 
 -- The tokens the scan takes are a tree's.
-pub flat_whole : (ts : List ℕ) (n : ℕ) → shape_of ts ≡ Whole n → (t : Tree) × (flat t ≡ ts) × (leaves t ≡ n)
+pub flat_whole : (ts : List ℕ) (n : ℕ) → shape_of ts ≡ Some n → (t : Tree) × (flat t ≡ ts) × (leaves t ≡ n)
 unfolding shape_of
 flat_whole ts n e = go (scan_forest ts 1 0 n e)
   where
@@ -100,34 +99,34 @@ pub record OneTree (ts : List ℕ) (n : ℕ) : Type 0 where
   pub only : (u : Tree) → flat u ≡ ts → u ≡ tree
 
 -- Tokens are one whole tree exactly when exactly one tree has these tokens.
-pub whole_exactly : (ts : List ℕ) (n : ℕ) → (shape_of ts ≡ Whole n) ↔ OneTree ts n
+pub whole_exactly : (ts : List ℕ) (n : ℕ) → (shape_of ts ≡ Some n) ↔ OneTree ts n
 whole_exactly ts n = (found, taken)
   where
-    found : shape_of ts ≡ Whole n → OneTree ts n
+    found : shape_of ts ≡ Some n → OneTree ts n
     found e =
         let t = flat_whole ts n e in
         record { tree = t.0; tokens = t.1; primitives = t.2; only = λ u h. flat_injective u t.0 (h ∙ sym t.1) }
 
-    taken : OneTree ts n → shape_of ts ≡ Whole n
-    taken o = rw (← o.tokens) (whole_flat o.tree ∙ ap Whole o.primitives)
+    taken : OneTree ts n → shape_of ts ≡ Some n
+    taken o = rw (← o.tokens) (whole_flat o.tree ∙ ap Some o.primitives)
 
 -- Tokens are broken exactly when no tree has them.
-pub broken_exactly : (ts : List ℕ) → (shape_of ts ≡ Broken) ↔ ((t : Tree) → flat t ≡ ts → ⊥)
+pub broken_exactly : (ts : List ℕ) → (shape_of ts ≡ None) ↔ ((t : Tree) → flat t ≡ ts → ⊥)
 broken_exactly ts = (never, refused (shape_of ts) refl)
   where
-    never : shape_of ts ≡ Broken → (t : Tree) → flat t ≡ ts → ⊥
+    never : shape_of ts ≡ None → (t : Tree) → flat t ≡ ts → ⊥
     never e t h = broken (sym e ∙ ap shape_of (sym h) ∙ whole_flat t)
 
-    refused : (s : Shape) → shape_of ts ≡ s → ((t : Tree) → flat t ≡ ts → ⊥) → shape_of ts ≡ Broken
-    refused Broken e lacks = e
-    refused (Whole n) e lacks = let t = flat_whole ts n e in absurd (lacks t.0 t.1)
+    refused : (s : Option ℕ) → shape_of ts ≡ s → ((t : Tree) → flat t ≡ ts → ⊥) → shape_of ts ≡ None
+    refused None e lacks = e
+    refused (Some n) e lacks = let t = flat_whole ts n e in absurd (lacks t.0 t.1)
 
 -- The number that comes with a whole tree is the number of its 0 tokens.
-pub whole_count : (ts : List ℕ) (n : ℕ) → shape_of ts ≡ Whole n → count is_primitive ts ≡ n
+pub whole_count : (ts : List ℕ) (n : ℕ) → shape_of ts ≡ Some n → count is_primitive ts ≡ n
 whole_count ts n e =
     let t = flat_whole ts n e in
     ap (count is_primitive) (sym t.1) ∙ count_leaves t.0 ∙ t.2
 
 -- "Prove that any two results allowed are equal": those of `whole_tree`.
-pub one_answer : (ts : List ℕ) (r s : Shape) → r ≡ shape_of ts → s ≡ shape_of ts → r ≡ s
+pub one_answer : (ts : List ℕ) (r s : Option ℕ) → r ≡ shape_of ts → s ≡ shape_of ts → r ≡ s
 one_answer ts r s p q = p ∙ sym q

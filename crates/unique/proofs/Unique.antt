@@ -26,6 +26,19 @@ pub record Unique (T : Ended) (c : Contract T) : Type 2 where
       → Sat 𝓤.op ((c M 𝓤 𝓛 mem run κs a).ensures g' r' (at_exit T κs a ws'))
       → ∥ (r ≡ r') × (ws ≡ ws') ∥₁
 
+-- What is asked of an answer, where not all of it is fixed: as what a result that borrows holds, and not where that lies.
+abbrev pub Seen : Ended → Type 0 → Type 0
+Seen T V = (κs : Lfts T.signature.lifetimes) (a : Args T.signature κs) → Res T.signature κs → Lasts T κs a → V
+
+-- Two answers, as before, are the same in what is asked of them.
+pub record UniqueIn (T : Ended) {V : Type 0} (seen : Seen T V) (c : Contract T) : Type 2 where
+  pub equal : (M : Type 1) (𝓤 : Ura M) (𝓛 : Logic 𝓤) (mem : Memory → SProp 𝓤) (run : Routine → Fun 𝓤)
+      (κs : Lfts T.signature.lifetimes) (a : Args T.signature κs) (g g' : (c M 𝓤 𝓛 mem run κs a).ghost)
+      (r r' : Res T.signature κs) (ws ws' : Lasts T κs a)
+      → Sat 𝓤.op ((c M 𝓤 𝓛 mem run κs a).ensures g r (at_exit T κs a ws))
+      → Sat 𝓤.op ((c M 𝓤 𝓛 mem run κs a).ensures g' r' (at_exit T κs a ws'))
+      → ∥ seen κs a r ws ≡ seen κs a r' ws' ∥₁
+
 module _ (T : Ended) where
   -- What a `requires` and an `ensures` say, and a plain fact of an answer.
   abbrev pub Asks : Type 2
@@ -62,16 +75,29 @@ beside φ {E} {ψ} t = record {
       fact_i 𝓤 (φ κs a r e × ψ κs a r e) _ (p, q)));
 }
 
+-- What an answer tells is so.
+known : {T : Ended} {E : Says T} {φ : Fact T} → Tells T E φ
+    → (M : Type 1) (𝓤 : Ura M) (κs : Lfts T.signature.lifetimes) (a : Args T.signature κs) (r : Res T.signature κs) (ws : Lasts T κs a)
+    → Sat 𝓤.op (E M 𝓤 κs a r (at_exit T κs a ws)) → ∥ φ κs a r (at_exit T κs a ws) ∥₁
+known {T} {E} {φ} t M 𝓤 κs a r ws s =
+    ∥∥₁_map (Sat_exists {0} 𝓤 {A = φ κs a r (at_exit T κs a ws)} (λ _. emp 𝓤) (Sat.mono 𝓤.op (t.told M 𝓤 κs a r (at_exit T κs a ws)) s)) (λ p. p.0)
+
 -- A contract that tells a fact which holds of one answer only allows one answer only.
 pub unique : {T : Ended} {R : Asks T} {E : Says T} {φ : Fact T} → Tells T E φ → Fixes T φ → Unique T (contract_of T R E)
 unique {T} {R} {E} {φ} t fixes = record {
   equal = λ M 𝓤 𝓛 mem run κs a g g' r r' ws ws' s s'.
-      ∥∥₁_elim (known M 𝓤 κs a r ws s) ∥∥₁_prop (λ p. ∥∥₁_map (known M 𝓤 κs a r' ws' s') (λ q. fixes κs a r r' ws ws' p q));
+      ∥∥₁_elim (known t M 𝓤 κs a r ws s) ∥∥₁_prop (λ p. ∥∥₁_map (known t M 𝓤 κs a r' ws' s') (λ q. fixes κs a r r' ws ws' p q));
 }
-  where
-    known : (M : Type 1) (𝓤 : Ura M) (κs : Lfts T.signature.lifetimes) (a : Args T.signature κs) (r : Res T.signature κs) (ws : Lasts T κs a)
-        → Sat 𝓤.op (E M 𝓤 κs a r (at_exit T κs a ws)) → ∥ φ κs a r (at_exit T κs a ws) ∥₁
-    known M 𝓤 κs a r ws s = ∥∥₁_map (Sat_exists {0} 𝓤 {A = φ κs a r (at_exit T κs a ws)} (λ _. emp 𝓤) (Sat.mono 𝓤.op (t.told M 𝓤 κs a r (at_exit T κs a ws)) s)) (λ p. p.0)
+
+-- One that tells a fact which fixes what is asked allows only answers that are the same in it.
+pub unique_in : {T : Ended} {R : Asks T} {E : Says T} {φ : Fact T} {V : Type 0} (seen : Seen T V) → Tells T E φ
+    → ((κs : Lfts T.signature.lifetimes) (a : Args T.signature κs) (r r' : Res T.signature κs) (ws ws' : Lasts T κs a)
+    → φ κs a r (at_exit T κs a ws) → φ κs a r' (at_exit T κs a ws') → seen κs a r ws ≡ seen κs a r' ws')
+    → UniqueIn T seen (contract_of T R E)
+unique_in {T} {R} {E} {φ} seen t fixes = record {
+  equal = λ M 𝓤 𝓛 mem run κs a g g' r r' ws ws' s s'.
+      ∥∥₁_elim (known t M 𝓤 κs a r ws s) ∥∥₁_prop (λ p. ∥∥₁_map (known t M 𝓤 κs a r' ws' s') (λ q. fixes κs a r r' ws ws' p q));
+}
 
 -- The case of most functions: the result is what a definition says, and nothing is lent mutably (`unlent`).
 pub by_result : {T : Ended} {R : Asks T} (D : (κs : Lfts T.signature.lifetimes) → Args T.signature κs → Res T.signature κs)

@@ -1,10 +1,10 @@
 use Rattle.checks.specs.Check.{one_tree}
 use Rattle.checks.proofs.check.one_tree.Goals as goal
 
-pub returns-in-Whole : goal.returns-in-Whole
+pub returns-in-Some : goal.returns-in-Some
 unfolding one_tree
-returns-in-Whole c = rw (← c.whole_tree.ensures, c.in-Whole.is)
+returns-in-Some c = rw (← c.whole_tree.ensures, c.in-Some.is)
 
-pub returns-in-Broken : goal.returns-in-Broken
+pub returns-in-None : goal.returns-in-None
 unfolding one_tree
-returns-in-Broken c = rw (← c.whole_tree.ensures, c.in-Broken.is)
+returns-in-None c = rw (← c.whole_tree.ensures, c.in-None.is)

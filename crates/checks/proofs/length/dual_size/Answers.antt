@@ -1,10 +1,10 @@
 use Rattle.checks.specs.Length.{dual_size}
 use Rattle.checks.proofs.length.dual_size.Goals as goal
 
-pub returns-in-At : goal.returns-in-At
+pub returns-in-Some : goal.returns-in-Some
 unfolding dual_size
-returns-in-At c = rw (← c.ether_proto_offset.ensures, c.in-At.is)
+returns-in-Some c = rw (← c.ether_proto_offset.ensures, c.in-Some.is)
 
-pub returns-in-Nowhere : goal.returns-in-Nowhere
+pub returns-in-None : goal.returns-in-None
 unfolding dual_size
-returns-in-Nowhere c = rw (← c.ether_proto_offset.ensures, c.in-Nowhere.is)
+returns-in-None c = rw (← c.ether_proto_offset.ensures, c.in-None.is)

@@ -2,10 +2,10 @@ use native.Mathlib.Omega.{arith}
 use Rattle.checks.specs.Length.{ethertype_size}
 use Rattle.checks.proofs.length.ethertype_size.Goals as goal
 
-pub returns-in-At : goal.returns-in-At
+pub returns-in-Some : goal.returns-in-Some
 unfolding ethertype_size
-returns-in-At c = (rw (← c.ether_proto_offset.ensures, c.in-At.is), omega arith)
+returns-in-Some c = (rw (← c.ether_proto_offset.ensures, c.in-Some.is), omega arith)
 
-pub returns-in-Nowhere : goal.returns-in-Nowhere
+pub returns-in-None : goal.returns-in-None
 unfolding ethertype_size
-returns-in-Nowhere c = (rw (← c.ether_proto_offset.ensures, c.in-Nowhere.is), omega arith)
+returns-in-None c = (rw (← c.ether_proto_offset.ensures, c.in-None.is), omega arith)

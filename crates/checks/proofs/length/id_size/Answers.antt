@@ -2,10 +2,10 @@ use native.Mathlib.Omega.{arith}
 use Rattle.checks.specs.Length.{id_size}
 use Rattle.checks.proofs.length.id_size.Goals as goal
 
-pub returns-in-NoId : goal.returns-in-NoId
+pub returns-in-None : goal.returns-in-None
 unfolding id_size
-returns-in-NoId c = (rw c.in-NoId.is, omega arith)
+returns-in-None c = (rw c.in-None.is, omega arith)
 
-pub returns-in-SomeId : goal.returns-in-SomeId
+pub returns-in-Some : goal.returns-in-Some
 unfolding id_size
-returns-in-SomeId c = (rw c.in-SomeId.is, omega arith)
+returns-in-Some c = (rw c.in-Some.is, omega arith)

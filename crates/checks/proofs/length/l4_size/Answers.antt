@@ -2,10 +2,10 @@ use native.Mathlib.Omega.{arith}
 use Rattle.checks.specs.Length.{l4_size}
 use Rattle.checks.proofs.length.l4_size.Goals as goal
 
-pub returns-in-NoProto : goal.returns-in-NoProto
+pub returns-in-None : goal.returns-in-None
 unfolding l4_size
-returns-in-NoProto c = (rw c.in-NoProto.is, omega arith)
+returns-in-None c = (rw c.in-None.is, omega arith)
 
-pub returns-in-SomeProto : goal.returns-in-SomeProto
+pub returns-in-Some : goal.returns-in-Some
 unfolding l4_size
-returns-in-SomeProto c = (rw c.in-SomeProto.is, omega arith)
+returns-in-Some c = (rw c.in-Some.is, omega arith)

@@ -2,10 +2,10 @@ use native.Mathlib.Omega.{arith}
 use Rattle.checks.specs.Length.{label_size}
 use Rattle.checks.proofs.length.label_size.Goals as goal
 
-pub returns-in-NoLabel : goal.returns-in-NoLabel
+pub returns-in-None : goal.returns-in-None
 unfolding label_size
-returns-in-NoLabel c = (rw c.in-NoLabel.is, omega arith)
+returns-in-None c = (rw c.in-None.is, omega arith)
 
-pub returns-in-SomeLabel : goal.returns-in-SomeLabel
+pub returns-in-Some : goal.returns-in-Some
 unfolding label_size
-returns-in-SomeLabel c = (rw c.in-SomeLabel.is, omega arith)
+returns-in-Some c = (rw c.in-Some.is, omega arith)

@@ -1,10 +1,10 @@
 use Rattle.checks.specs.Refusal.{port_refusal}
 use Rattle.checks.proofs.refusal.port_refusal.Goals as goal
 
-pub returns-in-NoProto : goal.returns-in-NoProto
+pub returns-in-None : goal.returns-in-None
 unfolding port_refusal
-returns-in-NoProto c = rw c.in-NoProto.is
+returns-in-None c = rw c.in-None.is
 
-pub returns-in-SomeProto : goal.returns-in-SomeProto
+pub returns-in-Some : goal.returns-in-Some
 unfolding port_refusal
-returns-in-SomeProto c = rw (c.in-SomeProto.is, c.l4_refusal.ensures)
+returns-in-Some c = rw (c.in-Some.is, c.l4_refusal.ensures)

@@ -3,10 +3,10 @@ use Rattle.pieces.specs.Fragments.{past, guard, load, emit_load, fails, skips, c
 use Rattle.codegen.specs.Primitives.{emit_l4_proto_check, prereqs_v6}
 use Rattle.codegen.proofs.ports.past_v6.Goals as goal
 
-pub returns-in-NoProto : goal.returns-in-NoProto
+pub returns-in-None : goal.returns-in-None
 unfolding past guard load emit_load fails skips check emit_l4_proto_check prereqs_v6
-returns-in-NoProto c = rw c.in-NoProto.is
+returns-in-None c = rw c.in-None.is
 
-pub returns-in-SomeProto : goal.returns-in-SomeProto
+pub returns-in-Some : goal.returns-in-Some
 unfolding past guard load emit_load fails skips check emit_l4_proto_check prereqs_v6
-returns-in-SomeProto c = rw c.in-SomeProto.is
+returns-in-Some c = rw c.in-Some.is

@@ -5,12 +5,12 @@ use Rattle.codegen.proofs.tags.emit_mpls.Goals as goal
 
 pub emit_mpls_at-requires : goal.emit_mpls_at-requires
 unfolding emit_mpls
-emit_mpls_at-requires c = rw (← c.ether_proto_offset.ensures, c.in-At.is) at c.requires
+emit_mpls_at-requires c = rw (← c.ether_proto_offset.ensures, c.in-Some.is) at c.requires
 
-pub returns-in-At : goal.returns-in-At
+pub returns-in-Some : goal.returns-in-Some
 unfolding emit_mpls
-returns-in-At c = rw (← c.ether_proto_offset.ensures, c.in-At.is) c.emit_mpls_at.ensures
+returns-in-Some c = rw (← c.ether_proto_offset.ensures, c.in-Some.is) c.emit_mpls_at.ensures
 
-pub returns-in-Nowhere : goal.returns-in-Nowhere
+pub returns-in-None : goal.returns-in-None
 unfolding emit_mpls block
-returns-in-Nowhere c = rw (← c.ether_proto_offset.ensures, c.in-Nowhere.is)
+returns-in-None c = rw (← c.ether_proto_offset.ensures, c.in-None.is)

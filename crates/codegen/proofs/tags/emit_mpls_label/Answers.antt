@@ -6,20 +6,20 @@ use Rattle.codegen.proofs.tags.emit_mpls_label.Goals as goal
 
 pub emit_load_from-a-requires : goal.emit_load_from-a-requires
 unfolding fails
-emit_load_from-a-requires c = first _ _ _ (rw c.in-SomeLabel.is at c.requires)
+emit_load_from-a-requires c = first _ _ _ (rw c.in-Some.is at c.requires)
 
 pub push-b-requires : goal.push-b-requires
 unfolding fails
-push-b-requires c = head _ _ _ (second _ _ _ _ _ _ _ _ (rw c.in-SomeLabel.is at c.requires) c.emit_load_from-a.ensures)
+push-b-requires c = head _ _ _ (second _ _ _ _ _ _ _ _ (rw c.in-Some.is at c.requires) c.emit_load_from-a.ensures)
 
 pub push_failure-requires : goal.push_failure-requires
 unfolding fails
-push_failure-requires c = head _ _ _ (tail _ _ _ _ _ _ _ _ (second _ _ _ _ _ _ _ _ (rw c.in-SomeLabel.is at c.requires) c.emit_load_from-a.ensures) (rw c.rsh32_imm.ensures at c.push-b.ensures))
+push_failure-requires c = head _ _ _ (tail _ _ _ _ _ _ _ _ (second _ _ _ _ _ _ _ _ (rw c.in-Some.is at c.requires) c.emit_load_from-a.ensures) (rw c.rsh32_imm.ensures at c.push-b.ensures))
 
-pub returns-in-NoLabel : goal.returns-in-NoLabel
+pub returns-in-None : goal.returns-in-None
 unfolding block
-returns-in-NoLabel c = rw c.in-NoLabel.is
+returns-in-None c = rw c.in-None.is
 
-pub returns-in-SomeLabel : goal.returns-in-SomeLabel
+pub returns-in-Some : goal.returns-in-Some
 unfolding fails
-returns-in-SomeLabel c = rw c.in-SomeLabel.is (then _ _ _ _ _ c.emit_load_from-a.ensures (step _ _ _ _ _ (rw c.rsh32_imm.ensures at c.push-b.ensures) (one _ _ _ (rw c.jne.ensures at c.push_failure.ensures))))
+returns-in-Some c = rw c.in-Some.is (then _ _ _ _ _ c.emit_load_from-a.ensures (step _ _ _ _ _ (rw c.rsh32_imm.ensures at c.push-b.ensures) (one _ _ _ (rw c.jne.ensures at c.push_failure.ensures))))

@@ -3,10 +3,10 @@ use Rattle.std.proofs.Common.{add-zero}
 use Rattle.meaning.specs.Meaning.{ethertype}
 use Rattle.meaning.proofs.ether.ethertype.Goals as goal
 
-pub returns-in-At : goal.returns-in-At
+pub returns-in-Some : goal.returns-in-Some
 unfolding ethertype
-returns-in-At c = simp (c.half_is.ensures, c.in-At.is, ← c.ether_proto_offset.ensures, add-zero)
+returns-in-Some c = simp (c.half_is.ensures, c.in-Some.is, ← c.ether_proto_offset.ensures, add-zero)
 
-pub returns-in-Nowhere : goal.returns-in-Nowhere
+pub returns-in-None : goal.returns-in-None
 unfolding ethertype
-returns-in-Nowhere c = simp (c.in-Nowhere.is, ← c.ether_proto_offset.ensures, add-zero)
+returns-in-None c = simp (c.in-None.is, ← c.ether_proto_offset.ensures, add-zero)

@@ -2,10 +2,10 @@
 use Rattle.meaning.specs.Meaning.{tagged}
 use Rattle.meaning.proofs.ether.session_id.Goals as goal
 
-pub returns-in-At : goal.returns-in-At
+pub returns-in-Some : goal.returns-in-Some
 unfolding tagged
-returns-in-At c = simp (c.half_is.ensures, c.in-At.is, ← c.ether_proto_offset.ensures)
+returns-in-Some c = simp (c.half_is.ensures, c.in-Some.is, ← c.ether_proto_offset.ensures)
 
-pub returns-in-Nowhere : goal.returns-in-Nowhere
+pub returns-in-None : goal.returns-in-None
 unfolding tagged
-returns-in-Nowhere c = simp (c.in-Nowhere.is, ← c.ether_proto_offset.ensures)
+returns-in-None c = simp (c.in-None.is, ← c.ether_proto_offset.ensures)

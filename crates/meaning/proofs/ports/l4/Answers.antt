@@ -5,12 +5,12 @@ use Rattle.meaning.proofs.ports.l4.Goals as goal
 
 pub returns-then-p-eq6 : goal.returns-then-p-eq6
 unfolding l4
-returns-then-p-eq6 c = simp (eq-eqb _ _ c.if-p-eq6.true, c.in-NoProto.is)
+returns-then-p-eq6 c = simp (eq-eqb _ _ c.if-p-eq6.true, c.in-None.is)
 
 pub returns-else-p-eq6 : goal.returns-else-p-eq6
 unfolding l4
-returns-else-p-eq6 c = simp (ne_eqb _ _ c.if-p-eq6.false, c.in-NoProto.is)
+returns-else-p-eq6 c = simp (ne_eqb _ _ c.if-p-eq6.false, c.in-None.is)
 
-pub returns-in-SomeProto : goal.returns-in-SomeProto
+pub returns-in-Some : goal.returns-in-Some
 unfolding l4
-returns-in-SomeProto c = simp (c.given.ensures, c.in-SomeProto.is)
+returns-in-Some c = simp (c.given.ensures, c.in-Some.is)

@@ -5,12 +5,12 @@ use Rattle.pieces.proofs.ether.emit_ethertype.Goals as goal
 
 pub check-requires : goal.check-requires
 unfolding emit_ethertype
-check-requires c = (rw (← c.ether_proto_offset.ensures, c.in-At.is) at c.requires)
+check-requires c = (rw (← c.ether_proto_offset.ensures, c.in-Some.is) at c.requires)
 
-pub returns-in-At : goal.returns-in-At
+pub returns-in-Some : goal.returns-in-Some
 unfolding emit_ethertype
-returns-in-At c = rw (← c.ether_proto_offset.ensures, c.in-At.is) (c.check.ensures)
+returns-in-Some c = rw (← c.ether_proto_offset.ensures, c.in-Some.is) (c.check.ensures)
 
-pub returns-in-Nowhere : goal.returns-in-Nowhere
+pub returns-in-None : goal.returns-in-None
 unfolding emit_ethertype block
-returns-in-Nowhere c = rw (← c.ether_proto_offset.ensures, c.in-Nowhere.is)
+returns-in-None c = rw (← c.ether_proto_offset.ensures, c.in-None.is)

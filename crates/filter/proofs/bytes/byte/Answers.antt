@@ -1,6 +1,0 @@
-use lib.ListN.{get_or-eq_default}
-use mathlib.Core.Path.{sym}
-use Rattle.filter.proofs.bytes.byte.Goals as goal
-
-pub returns-else-p-s : goal.returns-else-p-s
-returns-else-p-s c = sym (get_or-eq_default c.args.s.now 0 c.if-p-s.false)

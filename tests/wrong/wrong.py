@@ -4,37 +4,49 @@ import re
 
 HERE = os.path.dirname(os.path.abspath(__file__))
 ROOT = os.path.dirname(os.path.dirname(HERE))
-CRATES = ["ebpf", "layers", "tree", "filter", "savefile", "checks", "meaning", "nots", "patches", "pieces", "codegen", "generator", "gateway", "capture", "bromaveluth", "bromaveluth_c", "report"]
+CRATES = ["ebpf", "layers", "tree", "filter", "refusals", "savefile", "checks", "meaning", "nots", "patches", "pieces", "codegen", "generator", "gateway", "capture", "bromaveluth", "bromaveluth_c", "report"]
 
 
 class Function:
-    """A public function: its name, its file, and its text from `fn` to the closing brace."""
+    """A public function: its name, its file, its text from `fn` to the closing brace, and what a `From` says of its result."""
 
-    def __init__(self, name, path, start, end, text):
-        self.name, self.path, self.start, self.end, self.text = name, path, start, end, text
+    def __init__(self, name, path, start, end, text, gives):
+        self.name, self.path, self.start, self.end, self.text, self.gives = name, path, start, end, text, gives
 
 
-def functions_in(path, module):
+def homes(folder):
+    """The module of each type of a crate: a method stands under its type, wherever its impl does."""
+    found = {}
+    for file in sorted(os.listdir(folder)):
+        module = "" if file == "lib.rt" else file[: -len(".rt")]
+        with open(os.path.join(folder, file), encoding="utf-8") as source:
+            found |= {name: module for name in re.findall(r"^(?:pub(?:\([a-z ]+\))? )?(?:struct|enum) (\w+)", source.read(), re.M)}
+    return found
+
+
+def functions_in(path, module, types):
     source = open(path, encoding="utf-8").read()
-    owner, at = "", 0
+    owner, gives, at = "", "", 0
     for line in source.splitlines(keepends=True):
-        m = re.match(r"impl (\w+)", line)
-        owner = m.group(1) if m else "" if line.startswith("}") else owner
-        m = re.match(r'( *)pub (?:extern "C" )?fn (\w+)', line)
+        m = re.match(r"impl(?:<[^>]*>)? (?:From<.*?> for )?(\w+)", line)
+        owner, gives = (m.group(1), "") if m else ("", "") if line.startswith("}") else (owner, gives)
+        m = re.match(r" *ghost from_gives = \{ (.*) \};", line)
+        gives = m.group(1) if m and (owner not in types or re.search(rf"^pub (?:struct|enum) {owner}\b", source, re.M)) else gives
+        m = re.match(r'( *)pub (?:extern "C" )?fn (\w+)', line) or (gives and re.match(r"( *)fn (from)\b", line))
         if m:
             end = source.index("\n" + m.group(1) + "}\n", at) + len(m.group(1)) + 2
-            name = "::".join(x for x in (module, owner, m.group(2)) if x)
-            yield Function(name, path, at, end, source[at:end])
+            name = "::".join(x for x in (types.get(owner, module), owner, m.group(2)) if x)
+            yield Function(name, path, at, end, source[at:end], gives)
         at += len(line)
 
 
 def public(crate, root=ROOT):
     """The public functions of a crate, in the order of their files."""
     folder = os.path.join(root, "crates", crate, "src")
-    found = []
+    found, types = [], homes(folder)
     for file in sorted(os.listdir(folder)):
         module = "" if file == "lib.rt" else file[: -len(".rt")]
-        found += functions_in(os.path.join(folder, file), module)
+        found += functions_in(os.path.join(folder, file), module, types)
     return found
 
 

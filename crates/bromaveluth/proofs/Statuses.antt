@@ -15,52 +15,40 @@ use Rattle.tree.specs.Tree.Tree.{leaf, and, or, inv}
 use Rattle.filter.specs.Ast.{link_of}
 use Rattle.filter.specs.First.{first}
 use Rattle.filter.specs.Record.{decode_at}
-use Rattle.filter.specs.Sheet.{sections_of, steps_part, prims_part, tokens_part}
+use Rattle.filter.specs.Sheet.{counts, sections_of, steps_part, prims_part, tokens_part}
 use Rattle.filter.specs.declared.ast.LinkType.{LinkType}
 use Rattle.filter.proofs.Firsts.{first_passes}
 use Rattle.checks.specs.Check.{far_offset, shift_at, lowest_wrong, complete, check_accesses, check_parts, check_sections, check_of, steps_before}
 use Rattle.checks.specs.Refusal.{refusal, refusal_at}
 use Rattle.checks.specs.Measure.{measured, measure_of, roomed, admit_of}
-use Rattle.checks.specs.declared.check.Checked.{Checked}
-use Rattle.checks.specs.declared.check.Checked.TheVariants as checked
+use Rattle.refusals.specs.Refusal.{Answer}
+use Rattle.refusals.specs.Refusal.Answer.{Refused, Given}
 use Rattle.checks.specs.declared.measure.Measured.{Measured}
-use Rattle.checks.specs.declared.measure.Measured.TheVariants as measure
 use Rattle.meaning.specs.Evaluate.{expression_holds, first_refused, judge, evaluated, evaluate_of}
-use Rattle.meaning.specs.declared.evaluate.Verdict.{Verdict}
-use Rattle.meaning.specs.declared.evaluate.Verdict.TheVariants as verdict
-use Rattle.patches.specs.declared.Patched.{Patched}
-use Rattle.patches.specs.declared.Patched.TheVariants.{Done, TooFar}
+use Rattle.patches.specs.Chain.{Patched}
+use Rattle.std.specs.Prelude.{Ok, Err}
+use Rattle.patches.specs.Chain.{too_far}
 use Rattle.patches.specs.Chain.{reach}
 use Rattle.patches.specs.Machine.{Tpl}
 use Rattle.patches.specs.Machine.Tpl.{code, refused}
 use Rattle.patches.specs.Listing.{ResL, CompL, when_l, on_leaf_l, and_done_l, and_right_l, or_done_l, or_right_l, not_done_l, emit_l, end_l, ended_l, res_comp_l, compile_l, listed, resolved_l}
 use Rattle.patches.specs.Listing.ResL.{fail_l, ok_l}
 use Rattle.patches.specs.Listing.CompL.{stopped_l, made_l}
-use Rattle.patches.specs.Finish.{ja}
+use Rattle.patches.specs.Operators.{ja}
 use Rattle.patches.specs.Whole.{prologue, epilogue}
 use Rattle.generator.specs.Template.{template_of, template}
 use Rattle.generator.specs.Compile.{outcome, outcome_of, answer_of}
 use Rattle.generator.specs.Compile.Outcome.{late}
-use Rattle.generator.specs.declared.Compiled.{Compiled}
-use Rattle.generator.specs.declared.Compiled.TheVariants as compiled
 use Rattle.bromaveluth.proofs.Earned.{either, at_most}
-use Rattle.bromaveluth.specs.Boundary.{compiled_status, verdict_status}
+use Rattle.bromaveluth.specs.Boundary.{status}
 
 abbrev pub Number : ℕ → Type 0
 Number n = (0 < n) × (n ≤ 19)
 
 -- In each answer on the way the number of a refusal, if it is one, is one of document 01's.
-abbrev pub Checks : Checked → Type 0
-Checks (checked.Refused number place) = Number number
-Checks (checked.Good a b c) = Unit {0}
-
-abbrev pub Measures : Measured → Type 0
-Measures (measure.Refused number place) = Number number
-Measures (measure.Length a b c l) = Unit {0}
-
-abbrev pub Tells : Verdict → Type 0
-Tells (verdict.Refused number place) = Number number
-Tells (verdict.Judged holds) = Unit {0}
+abbrev pub Numbered : {A : Type 0} → Answer A → Type 0
+Numbered (Refused number place) = Number number
+Numbered (Given x) = Unit {0}
 
 abbrev pub Templates : Tpl → Type 0
 Templates (code xs) = Unit {0}
@@ -74,53 +62,49 @@ abbrev pub Makes : CompL → Type 0
 Makes (stopped_l c i) = Number c
 Makes (made_l is) = Unit {0}
 
-abbrev pub Answers : Compiled → Type 0
-Answers (compiled.Refused number place) = Number number
-Answers (compiled.Program l) = Unit {0}
-
 -- Refusals 1 to 6.
-accesses : (link : LinkType) (steps prims : List ℕ) (a b c : ℕ) → Checks (check_accesses link steps prims a b c)
+accesses : (link : LinkType) (steps prims : List ℕ) (a b c : ℕ) → Numbered (check_accesses link steps prims a b c)
 unfolding check_accesses
 accesses link steps prims a b c =
     let x = first (far_offset link prims) b 0 in
     let y = first (shift_at steps prims) b 0 in
-    either Checks (ltb x b) (checked.Refused 5 x) (cond (ltb y b) (checked.Refused 6 y) (checked.Good a b c)) (λ e. (omega arith, omega arith))
-    (λ e. either Checks (ltb y b) (checked.Refused 6 y) (checked.Good a b c) (λ e. (omega arith, omega arith)) (λ e. tt))
+    either {A = Answer Counts} Numbered (ltb x b) (Refused 5 x) (cond (ltb y b) (Refused 6 y) (Given (counts a b c))) (λ e. (omega arith, omega arith))
+    (λ e. either {A = Answer Counts} Numbered (ltb y b) (Refused 6 y) (Given (counts a b c)) (λ e. (omega arith, omega arith)) (λ e. tt))
 
-parts : (link : LinkType) (steps prims tokens : List ℕ) (a b c : ℕ) → Checks (check_parts link steps prims tokens a b c)
+parts : (link : LinkType) (steps prims tokens : List ℕ) (a b c : ℕ) → Numbered (check_parts link steps prims tokens a b c)
 unfolding check_parts
 parts link steps prims tokens a b c =
-    either Checks (ltb (lowest_wrong steps prims tokens a b c) (5 * a + 24 * b + c + 6)) (checked.Refused 3 (lowest_wrong steps prims tokens a b c)) (cond (complete prims tokens a b) (check_accesses link steps prims a b c) (checked.Refused 4 0)) (λ e. (omega arith, omega arith))
-    (λ e. either Checks (complete prims tokens a b) (check_accesses link steps prims a b c) (checked.Refused 4 0) (λ e. accesses link steps prims a b c) (λ e. (omega arith, omega arith)))
+    either {A = Answer Counts} Numbered (ltb (lowest_wrong steps prims tokens a b c) (5 * a + 24 * b + c + 6)) (Refused 3 (lowest_wrong steps prims tokens a b c)) (cond (complete prims tokens a b) (check_accesses link steps prims a b c) (Refused 4 0)) (λ e. (omega arith, omega arith))
+    (λ e. either {A = Answer Counts} Numbered (complete prims tokens a b) (check_accesses link steps prims a b c) (Refused 4 0) (λ e. accesses link steps prims a b c) (λ e. (omega arith, omega arith)))
 
-sections : (link : LinkType) (s : List ℕ) (x : Option Counts) → Checks (check_sections link s x)
+sections : (link : LinkType) (s : List ℕ) (x : Option Counts) → Numbered (check_sections link s x)
 unfolding check_sections
 sections link s (Some n) =
     parts link (steps_part s n.steps) (prims_part s n.steps n.prims) (tokens_part s n.steps n.prims n.tokens) n.steps n.prims n.tokens
 sections link s None = (omega arith, omega arith)
 
-pub checks : (s : List ℕ) (link : ℕ) → Checks (check_of s link)
+pub checks : (s : List ℕ) (link : ℕ) → Numbered (check_of s link)
 unfolding check_of
 checks s link =
-    either Checks (ltb 2 link) (checked.Refused 1 0) (check_sections (link_of link) s (sections_of s)) (λ e. (omega arith, omega arith)) (λ e. sections (link_of link) s (sections_of s))
+    either {A = Answer Counts} Numbered (ltb 2 link) (Refused 1 0) (check_sections (link_of link) s (sections_of s)) (λ e. (omega arith, omega arith)) (λ e. sections (link_of link) s (sections_of s))
 
 -- Refusals 7 and 8.
-of_checked : (k : Checked) → Checks k → (s : List ℕ) (link : ℕ) → Measures (measured k s link)
+of_checked : (k : Answer Counts) → Numbered k → (s : List ℕ) (link : ℕ) → Numbered (measured k s link)
 unfolding measured
-of_checked (checked.Refused number place) h s link = h
-of_checked (checked.Good a b c) h s link = tt
+of_checked (Refused number place) h s link = h
+of_checked (Given n) h s link = tt
 
-of_room : (m : Measured) → Measures m → (output work : ℕ) → Measures (roomed m output work)
+of_room : (m : Answer Measured) → Numbered m → (output work : ℕ) → Numbered (roomed m output work)
 unfolding roomed
-of_room (measure.Refused number place) h output work = h
-of_room (measure.Length a b c l) h output work =
-    either Measures (ltb output (8 * l)) (measure.Refused 7 0) (cond (ltb work (l + 8 * c)) (measure.Refused 8 0) (measure.Length a b c l)) (λ e. (omega arith, omega arith))
-    (λ e. either Measures (ltb work (l + 8 * c)) (measure.Refused 8 0) (measure.Length a b c l) (λ e. (omega arith, omega arith)) (λ e. tt))
+of_room (Refused number place) h output work = h
+of_room (Given m) h output work =
+    either {A = Answer Measured} Numbered (ltb output (8 * m.length)) (Refused 7 0) (cond (ltb work (m.length + 8 * m.counts.tokens)) (Refused 8 0) (Given m)) (λ e. (omega arith, omega arith))
+    (λ e. either {A = Answer Measured} Numbered (ltb work (m.length + 8 * m.counts.tokens)) (Refused 8 0) (Given m) (λ e. (omega arith, omega arith)) (λ e. tt))
 
-pub admits : (s : List ℕ) (link mode output work : ℕ) → Measures (admit_of s link mode output work)
+pub admits : (s : List ℕ) (link mode output work : ℕ) → Numbered (admit_of s link mode output work)
 unfolding admit_of measure_of
 admits s link mode output work =
-    either Measures (ltb 1 mode) (measure.Refused 1 0) (roomed (measured (check_of s link) s link) output work) (λ e. (omega arith, omega arith))
+    either {A = Answer Measured} Numbered (ltb 1 mode) (Refused 1 0) (roomed (measured (check_of s link) s link) output work) (λ e. (omega arith, omega arith))
     (λ e. of_room (measured (check_of s link) s link) (of_checked (check_of s link) (checks s link) s link) output work)
 
 -- Refusals 10 to 19 of the generator.
@@ -138,8 +122,8 @@ leaves (code xs) h k is = tt
 leaves (refused c) h k is = h
 
 when : (p : Patched) (r : ResL) → Emits r → Emits (when_l p r)
-when TooFar r h = (omega arith, omega arith)
-when Done r h = h
+when (Err _) r h = (omega arith, omega arith)
+when (Ok _) r h = h
 
 and_done : (kept : List ℕ) (r : ResL) → Emits r → Emits (and_done_l kept r)
 and_done kept (fail_l c i) h = h
@@ -173,9 +157,9 @@ emits tpl h (or a b) k is = or_right (emit_l tpl a k is) (emits tpl h a k is) (�
 emits tpl h (inv a) k is = not_done (emit_l tpl a k is) (emits tpl h a k is)
 
 ends : (p q : Patched) (is : List Insn) → Makes (end_l p q is)
-ends TooFar q is = (omega arith, omega arith)
-ends Done TooFar is = (omega arith, omega arith)
-ends Done Done is = tt
+ends (Err _) q is = (omega arith, omega arith)
+ends (Ok _) (Err _) is = (omega arith, omega arith)
+ends (Ok _) (Ok _) is = tt
 
 of_emitted : (r : ResL) → Emits r → Makes (res_comp_l r)
 unfolding ended_l
@@ -187,32 +171,33 @@ makes : (tpl : ℕ → Tpl) → ((k : ℕ) → Templates (tpl k)) → (t : Tree)
 unfolding compile_l
 makes tpl h t = of_emitted (emit_l tpl t 0 (listed prologue [])) (emits tpl h t 0 (listed prologue []))
 
-late_answers : (l c : ℕ) (x : CompL) → Makes x → Answers (answer_of (late l c x))
+late_answers : (l c : ℕ) (x : CompL) → Makes x → Numbered (answer_of (late l c x))
 unfolding answer_of
 late_answers l c (stopped_l number place) h = h
 late_answers l c (made_l is) h = tt
 
-of_measured : (m : Measured) → Measures m → (s : List ℕ) (link mode : ℕ) → Answers (answer_of (outcome m s link mode))
+of_measured : (m : Answer Measured) → Numbered m → (s : List ℕ) (link mode : ℕ) → Numbered (answer_of (outcome m s link mode))
 unfolding outcome answer_of
-of_measured (measure.Refused number place) h s link mode = h
-of_measured (measure.Length a b c l) h s link mode =
-    let tpl = template mode (link_of link) (steps_part s a) (prims_part s a b) in
-    late_answers l c (compile_l tpl (tree_of (tokens_part s a b c)))
-    (makes tpl (templates mode (link_of link) (steps_part s a) (prims_part s a b)) (tree_of (tokens_part s a b c)))
+of_measured (Refused number place) h s link mode = h
+of_measured (Given m) h s link mode =
+    let n = m.counts in
+    let tpl = template mode (link_of link) (steps_part s n.steps) (prims_part s n.steps n.prims) in
+    let tree = tree_of (tokens_part s n.steps n.prims n.tokens) in
+    late_answers m.length n.tokens (compile_l tpl tree) (makes tpl (templates mode (link_of link) (steps_part s n.steps) (prims_part s n.steps n.prims)) tree)
 
 -- The number of every refusal of `compile` is one of 1 to 19.
-pub answers : (s : List ℕ) (link mode output work : ℕ) → Answers (answer_of (outcome_of s link mode output work))
+pub answers : (s : List ℕ) (link mode output work : ℕ) → Numbered (answer_of (outcome_of s link mode output work))
 unfolding outcome_of
 answers s link mode output work = of_measured (admit_of s link mode output work) (admits s link mode output work) s link mode
 
-accepted : (x : Compiled) → Answers x → compiled_status x ≡ 0 → (l : ℕ) × (x ≡ compiled.Program l)
-unfolding compiled_status
-accepted (compiled.Refused number place) h e = absurd (omega (arith, h.0))
-accepted (compiled.Program l) h e = (l, refl)
+accepted : (x : Answer ℕ) → Numbered x → status x ≡ 0 → (l : ℕ) × (x ≡ Given l)
+unfolding status
+accepted (Refused number place) h e = absurd (omega (arith, h.0))
+accepted (Given l) h e = (l, refl)
 
 -- `bromaveluth_compile` returns 0 exactly when the sheet is accepted.
-pub zero_accepts : (s : List ℕ) (link mode output work : ℕ) → compiled_status (answer_of (outcome_of s link mode output work)) ≡ 0
-    → (l : ℕ) × (answer_of (outcome_of s link mode output work) ≡ compiled.Program l)
+pub zero_accepts : (s : List ℕ) (link mode output work : ℕ) → status (answer_of (outcome_of s link mode output work)) ≡ 0
+    → (l : ℕ) × (answer_of (outcome_of s link mode output work) ≡ Given l)
 zero_accepts s link mode output work = accepted (answer_of (outcome_of s link mode output work)) (answers s link mode output work)
 
 -- The evaluator's refusals: 9, and 11 to 19 of the first primitive that earns one.
@@ -227,36 +212,37 @@ record_most : (link : LinkType) (steps prims : List ℕ) (k : ℕ) → refusal_a
 unfolding refusal_at
 record_most link steps prims k = at_most link steps (steps_before prims k) (decode_at prims (24 * k))
 
-judges : (link : LinkType) (steps prims tokens : List ℕ) (b : ℕ) (f : List ℕ) → Tells (judge link steps prims tokens b f)
+judges : (link : LinkType) (steps prims tokens : List ℕ) (b : ℕ) (f : List ℕ) → Numbered (judge link steps prims tokens b f)
 unfolding judge first_refused
 judges link steps prims tokens b f =
     let x = first (λ k. not (eqb (refusal_at link steps prims k) 0)) b 0 in
-    let said = verdict.Judged (expression_holds link steps prims tokens f) in
-    let told = verdict.Refused (refusal_at link steps prims x) x in
-    either Tells (ltb 256 (depth (tree_of tokens))) (verdict.Refused 9 0) (cond (ltb x b) told said) (λ e. (omega arith, omega arith))
-    (λ e. either Tells (ltb x b) told said
+    let said = Given (expression_holds link steps prims tokens f) in
+    let told = Refused (refusal_at link steps prims x) x in
+    either {A = Answer Bool} Numbered (ltb 256 (depth (tree_of tokens))) (Refused 9 0) (cond (ltb x b) told said) (λ e. (omega arith, omega arith))
+    (λ e. either {A = Answer Bool} Numbered (ltb x b) told said
     (λ e. (
       earned (refusal_at link steps prims x) (first_passes (λ k. not (eqb (refusal_at link steps prims k) 0)) b 0 (let h = ltb-true x b e in omega (arith, h))),
       record_most link steps prims x,
     ))
     (λ e. tt))
 
-of_sheet : (k : Checked) → Checks k → (link : LinkType) (s f : List ℕ) → Tells (evaluated k link s f)
+of_sheet : (k : Answer Counts) → Numbered k → (link : LinkType) (s f : List ℕ) → Numbered (evaluated k link s f)
 unfolding evaluated
-of_sheet (checked.Refused number place) h link s f = h
-of_sheet (checked.Good a b c) h link s f = judges link (steps_part s a) (prims_part s a b) (tokens_part s a b c) b f
+of_sheet (Refused number place) h link s f = h
+of_sheet (Given n) h link s f =
+    judges link (steps_part s n.steps) (prims_part s n.steps n.prims) (tokens_part s n.steps n.prims n.tokens) n.prims f
 
 -- The number of every refusal of `evaluate` is one of 1 to 19.
-pub tells : (s : List ℕ) (link : ℕ) (f : List ℕ) → Tells (evaluate_of s link f)
+pub tells : (s : List ℕ) (link : ℕ) (f : List ℕ) → Numbered (evaluate_of s link f)
 unfolding evaluate_of
 tells s link f = of_sheet (check_of s link) (checks s link) (link_of link) s f
 
-judged : (x : Verdict) → Tells x → verdict_status x ≡ 0 → (holds : Bool) × (x ≡ verdict.Judged holds)
-unfolding verdict_status
-judged (verdict.Refused number place) h e = absurd (omega (arith, h.0))
-judged (verdict.Judged holds) h e = (holds, refl)
+judged : (x : Answer Bool) → Numbered x → status x ≡ 0 → (holds : Bool) × (x ≡ Given holds)
+unfolding status
+judged (Refused number place) h e = absurd (omega (arith, h.0))
+judged (Given holds) h e = (holds, refl)
 
 -- `bromaveluth_evaluate` returns 0 exactly when the sheet is judged.
-pub zero_judges : (s : List ℕ) (link : ℕ) (f : List ℕ) → verdict_status (evaluate_of s link f) ≡ 0
-    → (holds : Bool) × (evaluate_of s link f ≡ verdict.Judged holds)
+pub zero_judges : (s : List ℕ) (link : ℕ) (f : List ℕ) → status (evaluate_of s link f) ≡ 0
+    → (holds : Bool) × (evaluate_of s link f ≡ Given holds)
 zero_judges s link f = judged (evaluate_of s link f) (tells s link f)

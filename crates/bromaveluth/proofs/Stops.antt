@@ -1,5 +1,6 @@
 -- The machine stops with 0 or one of 30 to 35, and with nothing else.
 use Prim.Native.Nat.{ℕ, zero, suc, ◌+◌, ◌-◌, ◌*◌, ◌/◌, ◌%◌, ◌^◌, ◌≤◌}
+use Rattle.std.specs.Prelude.{Option, Some, None}
 use mathlib.Core.Path.{◌≡◌, refl}
 use mathlib.Core.List.{List}
 use mathlib.Core.Bool.{Bool, true, false, not, cond, ◌&&◌}
@@ -12,15 +13,14 @@ use Rattle.ebpf.specs.Insn.{insn_at}
 use Rattle.ebpf.specs.Alu.{sext16, sext32, alu32, alu64, swapped, compares}
 use Rattle.ebpf.specs.Form.{Form, NotOurs, Context, Load, Reg64, Imm64, Imm32, Swap, Jump, Branch, BranchReg, Exit, form_of}
 use Rattle.ebpf.specs.Regs.{known_of, value_of}
-use Rattle.ebpf.specs.Step.{not_ours, outside, unwritten, nowhere, taken, le_at, context_act, frame_act, load_act, readable, reg64_act, imm64_act, imm32_act, swap_act, branch_act, branch_reg_act, exit_act, act_of, act_at, status_of, turn_of, step_of}
+use Rattle.ebpf.specs.Step.{stopped, not_ours, outside, unwritten, nowhere, taken, le_at, context_act, frame_act, load_act, readable, reg64_act, imm64_act, imm32_act, swap_act, branch_act, branch_reg_act, exit_act, act_of, act_at, halt_of, turn_of, step_of}
 use Rattle.ebpf.specs.Run.{first_state, ended_of, after, go_of, unless35, run_of}
 use Rattle.ebpf.specs.declared.regs.Regs.{Regs}
 use Rattle.ebpf.specs.declared.act.Act.{Act}
 use Rattle.ebpf.specs.declared.act.Act.TheVariants.{Writes, Jumps, Falls, Halts}
 use Rattle.ebpf.specs.declared.run.Outcome.{Outcome}
 use Rattle.ebpf.specs.declared.step.State.{State}
-use Rattle.ebpf.specs.declared.step.Status.{Status}
-use Rattle.ebpf.specs.declared.step.Status.TheVariants.{Going, Halted}
+use Rattle.ebpf.specs.declared.act.Halt.{Halt}
 use Rattle.bromaveluth.proofs.Earned.{either}
 
 abbrev pub Stop : ℕ → Type 0
@@ -30,11 +30,11 @@ abbrev pub Acts : Act → Type 0
 Acts (Writes dst value) = Unit {0}
 Acts (Jumps off) = Unit {0}
 Acts Falls = Unit {0}
-Acts (Halts stop r0) = Stop stop
+Acts (Halts halt) = Stop halt.stop
 
-abbrev pub Tells : Status → Type 0
-Tells Going = Unit {0}
-Tells (Halted stop r0) = Stop stop
+abbrev pub Tells : Option Halt → Type 0
+Tells None = Unit {0}
+Tells (Some halt) = Stop halt.stop
 
 s30 : Acts not_ours
 s30 = inr (omega arith, omega arith)
@@ -106,7 +106,7 @@ reg_tests r operation dst src off =
 
 exits : (r : Regs) → Acts (exit_act r)
 unfolding exit_act
-exits r = both (known_of r 0) (Halts 0 (value_of r 0)) unwritten (inl refl) s32
+exits r = both (known_of r 0) (stopped 0 (value_of r 0)) unwritten (inl refl) s32
 
 acts : (form : Form) (frame : List ℕ) (start : ℕ) (r : Regs) → Acts (act_of form frame start r)
 unfolding act_of
@@ -128,27 +128,27 @@ acts_at program frame start r pc =
     let act = act_of (form_of (insn_at program (pc * 8))) frame start r in
     both (ltb pc (length program / 8)) act nowhere (acts (form_of (insn_at program (pc * 8))) frame start r) s33
 
-told : (a : Act) → Acts a → Tells (status_of a)
-unfolding status_of
+told : (a : Act) → Acts a → Tells (halt_of a)
+unfolding halt_of
 told (Writes dst value) h = tt
 told (Jumps off) h = tt
 told Falls h = tt
-told (Halts stop r0) h = h
+told (Halts halt) h = h
 
-steps : (program frame : List ℕ) (start : ℕ) (s : State) → Tells (step_of program frame start s).status
+steps : (program frame : List ℕ) (start : ℕ) (s : State) → Tells (step_of program frame start s).halt
 unfolding step_of turn_of
 steps program frame start s = told (act_at program frame start s.regs s.pc) (acts_at program frame start s.regs s.pc)
 
-goes_on : (x : Status) → Tells x → (t : State) (more : State → Outcome) → ((t : State) → Stop (more t).stop) → (n : ℕ) → Stop (after x t more n).stop
+goes_on : (x : Option Halt) → Tells x → (t : State) (more : State → Outcome) → ((t : State) → Stop (more t).stop) → (n : ℕ) → Stop (after x t more n).stop
 unfolding ended_of
-goes_on Going h t more g n = g t
-goes_on (Halted stop r0) h t more g n = h
+goes_on None h t more g n = g t
+goes_on (Some halt) h t more g n = h
 
 goes : (left : ℕ) (program frame : List ℕ) (start : ℕ) (s : State) (n : ℕ) → Stop (go_of left program frame start s n).stop
 unfolding go_of
 goes zero program frame start s n = inr (omega arith, omega arith)
 goes (suc left) program frame start s n =
-    goes_on (step_of program frame start s).status (steps program frame start s) (step_of program frame start s).state
+    goes_on (step_of program frame start s).halt (steps program frame start s) (step_of program frame start s).state
     (λ t. go_of left program frame start t (n + 1)) (λ t. goes left program frame start t (n + 1)) n
 
 starts : (b : Bool) (more : ℕ → Outcome) → ((n : ℕ) → Stop (more n).stop) → (budget : ℕ) → Stop (unless35 b more budget).stop

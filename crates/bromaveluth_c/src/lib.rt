@@ -9,10 +9,10 @@ ghost use Rattle.generator.specs.Compile.{outcome_of, answer_of, output_after, w
 ghost use Rattle.nots.specs.Push.{new_sheet, push_of, sheet_after};
 ghost use Rattle.savefile.specs.Savefile.{header_of, opened_of};
 ghost use Rattle.capture.specs.Capture.{part_of, captured_of, output_in, work_in};
-ghost use Rattle.bromaveluth.specs.Boundary.{compiled_status, compiled_number, verdict_status, verdict_number, opened_status, opened_number};
-ghost use Rattle.bromaveluth.specs.Boundary.{pushed_status, pushed_number};
-ghost use Rattle.bromaveluth.specs.Boundary.{captured_status, passed_count, dropped_count, cut_count, captured_number};
-ghost use Rattle.bromaveluth.specs.Boundary.{asked_of, asked_status, asked_tokens, asked_output, asked_work, asked_number, version};
+ghost use Rattle.bromaveluth.specs.Boundary.{status, compiled_number, verdict_number, opened_number};
+ghost use Rattle.bromaveluth.specs.Boundary.{pushed_number};
+ghost use Rattle.bromaveluth.specs.Boundary.{passed_count, dropped_count, cut_count, captured_number};
+ghost use Rattle.bromaveluth.specs.Boundary.{asked_of, asked_tokens, asked_output, asked_work, asked_number, version};
 
 // The archive's version, to be compared with the header's.
 #[unsafe(no_mangle)]
@@ -33,7 +33,7 @@ pub extern "C" fn bromaveluth_measure(
     work: &mut u64,
     answer: &mut u64,
 ) -> u8
-    ensures value { result ≡ asked_status (asked_of sheet.now link mode) }
+    ensures value { result ≡ status (asked_of sheet.now link mode) }
     ensures tokens_after { tokens.new ≡ asked_tokens (asked_of sheet.now link mode) }
     ensures output_after { output.new ≡ asked_output (asked_of sheet.now link mode) }
     ensures work_after { work.new ≡ asked_work (asked_of sheet.now link mode) }
@@ -52,7 +52,7 @@ pub extern "C" fn bromaveluth_compile(
     work: &mut [u32],
     answer: &mut u64,
 ) -> u8
-    ensures value { result ≡ compiled_status (answer_of (outcome_of sheet.now link mode (length output.old) (length work.old))) }
+    ensures value { result ≡ status (answer_of (outcome_of sheet.now link mode (length output.old) (length work.old))) }
     ensures answer_after { answer.new ≡ compiled_number (answer_of (outcome_of sheet.now link mode (length output.old) (length work.old))) }
     ensures output_after { output.new ≡ output_after (outcome_of sheet.now link mode (length output.old) (length work.old)) output.old }
     ensures work_after { work.new ≡ work_after (outcome_of sheet.now link mode (length output.old) (length work.old)) work.old }
@@ -63,7 +63,7 @@ pub extern "C" fn bromaveluth_compile(
 // 0 and 1 in `answer` if the expression holds on the frame, 0 if not; or the refusal and its place there.
 #[unsafe(no_mangle)]
 pub extern "C" fn bromaveluth_evaluate(sheet: &[u8], link: u8, frame: &[u8], answer: &mut u64) -> u8
-    ensures value { result ≡ verdict_status (evaluate_of sheet.now link frame.now) }
+    ensures value { result ≡ status (evaluate_of sheet.now link frame.now) }
     ensures answer_after { answer.new ≡ verdict_number (evaluate_of sheet.now link frame.now) }
 {
     bromaveluth::bromaveluth_evaluate(sheet, link, frame, answer)
@@ -89,7 +89,7 @@ pub extern "C" fn bromaveluth_run(
 // 0 and in `answer` the new sheet's length in bytes, or the refusal and its place there.
 #[unsafe(no_mangle)]
 pub extern "C" fn bromaveluth_nots(sheet: &[u8], output: &mut [u8], answer: &mut u64) -> u8
-    ensures value { result ≡ pushed_status (push_of sheet.now (length output.old)) }
+    ensures value { result ≡ status (push_of sheet.now (length output.old)) }
     ensures answer_after { answer.new ≡ pushed_number (push_of sheet.now (length output.old)) }
     ensures output_after { output.new ≡ sheet_after (push_of sheet.now (length output.old)) (new_sheet sheet.now) output.old }
 {
@@ -99,7 +99,7 @@ pub extern "C" fn bromaveluth_nots(sheet: &[u8], output: &mut [u8], answer: &mut
 // 0 and in `answer` the link that the savefile picks; or 40 to 43, and there the byte where what is refused begins.
 #[unsafe(no_mangle)]
 pub extern "C" fn bromaveluth_capture_open(file: &[u8], answer: &mut u64) -> u8
-    ensures value { result ≡ opened_status (opened_of file.now) }
+    ensures value { result ≡ status (opened_of file.now) }
     ensures answer_after { answer.new ≡ opened_number (opened_of file.now) }
 {
     bromaveluth::bromaveluth_capture_open(file, answer)
@@ -118,7 +118,7 @@ pub extern "C" fn bromaveluth_capture(
     cut: &mut u64,
     answer: &mut u64,
 ) -> u8
-    ensures value { result ≡ captured_status (captured_of file.now sheet.now mode (length output.old) (length work.old)) }
+    ensures value { result ≡ status (captured_of file.now sheet.now mode (length output.old) (length work.old)) }
     ensures passed_after { passed.new ≡ passed_count (captured_of file.now sheet.now mode (length output.old) (length work.old)) }
     ensures dropped_after { dropped.new ≡ dropped_count (captured_of file.now sheet.now mode (length output.old) (length work.old)) }
     ensures cut_after { cut.new ≡ cut_count (captured_of file.now sheet.now mode (length output.old) (length work.old)) }
@@ -146,7 +146,7 @@ pub extern "C" fn bromaveluth_capture_part(
     cut: &mut u64,
     answer: &mut u64,
 ) -> u8
-    ensures value { result ≡ captured_status (part_of file.now sheet.now mode (length output.old) (length work.old) at most) }
+    ensures value { result ≡ status (part_of file.now sheet.now mode (length output.old) (length work.old) at most) }
     ensures passed_after { passed.new ≡ passed_count (part_of file.now sheet.now mode (length output.old) (length work.old) at most) }
     ensures dropped_after { dropped.new ≡ dropped_count (part_of file.now sheet.now mode (length output.old) (length work.old) at most) }
     ensures cut_after { cut.new ≡ cut_count (part_of file.now sheet.now mode (length output.old) (length work.old) at most) }

@@ -1,7 +1,6 @@
 -- From the compiled program and the file to the answer.
 use Prim.Native.Nat.{ℕ, ◌*◌, ◌/◌, ◌≤◌}
 use mathlib.Core.Path.{◌≡◌, refl}
-use mathlib.Core.Bool.{Bool}
 use mathlib.Core.List.{List, ◌++◌}
 use native.Mathlib.Omega.{arith}
 use lib.ListN.{length, take, drop}
@@ -9,20 +8,21 @@ use lib.Seq.{take-append_seam}
 use Rattle.program.specs.Program.{code_of}
 use Rattle.program.specs.Ends.{Frame}
 use Rattle.generator.specs.Compile.{outcome_of, answer_of, output_after}
-use Rattle.generator.specs.declared.Compiled.TheVariants as compiled
 use Rattle.sound.specs.Demand.{Bytes}
 use Rattle.sound.proofs.Demand3.{always_exits}
 use Rattle.sound.proofs.Accepted.{accepted}
 use Rattle.savefile.specs.Savefile.{walk_of}
 use Rattle.capture.specs.Capture.{Always, program_of, judged_walk, judged_from}
-use Rattle.capture.specs.declared.Captured.{Captured}
-use Rattle.capture.specs.declared.Captured.TheVariants.{Refused}
+use Rattle.refusals.specs.Refusal.{Answer}
+use Rattle.refusals.specs.Refusal.Answer.{Refused, Given}
+use Rattle.savefile.specs.declared.Header.{Header}
+use Rattle.capture.specs.declared.Counted.{Counted}
 
 front : (n : ℕ) (xs ys : List ℕ) → length xs ≡ n → take n (xs ++ ys) ≡ xs
 front n xs ys e = rw (← e) (take-append_seam xs ys)
 
 -- An accepted sheet: the first 8 x L bytes of the output are the program, and it exits on every frame.
-module _ (s : List ℕ) (link mode work l : ℕ) (out : List ℕ) (byte : Bytes s) (e : answer_of (outcome_of s link mode (length out) work) ≡ compiled.Program l) where
+module _ (s : List ℕ) (link mode work l : ℕ) (out : List ℕ) (byte : Bytes s) (e : answer_of (outcome_of s link mode (length out) work) ≡ Given l) where
   pub room : 8 * l ≤ length out
   room = (accepted s link mode work l out byte e).room
 
@@ -40,13 +40,13 @@ module _ (s : List ℕ) (link mode work l : ℕ) (out : List ℕ) (byte : Bytes 
       let w : Frame frame 0 = record { byte = byte'; low = omega arith } in
       rw (q, ← written) (always_exits s link mode work l out byte e w).1.exits
 
-module _ (big : Bool) (link : ℕ) (file sheet : List ℕ) (mode output work at most : ℕ) where
-  pub sheet_refused : (number place : ℕ) → answer_of (outcome_of sheet link mode output work) ≡ compiled.Refused number place
-      → Refused number place ≡ judged_from big link file sheet mode output work at most
+module _ (header : Header) (file sheet : List ℕ) (mode output work at most : ℕ) where
+  pub sheet_refused : (number place : ℕ) → answer_of (outcome_of sheet header.link mode output work) ≡ Refused number place
+      → Refused number place ≡ judged_from header file sheet mode output work at most
   unfolding judged_from
   sheet_refused number place m = rw m refl
 
-  pub all_judged : (l : ℕ) → answer_of (outcome_of sheet link mode output work) ≡ compiled.Program l → (r : Captured)
-      → r ≡ judged_walk (program_of (outcome_of sheet link mode output work)) file (walk_of most big file at) → r ≡ judged_from big link file sheet mode output work at most
+  pub all_judged : (l : ℕ) → answer_of (outcome_of sheet header.link mode output work) ≡ Given l → (r : Answer Counted)
+      → r ≡ judged_walk (program_of (outcome_of sheet header.link mode output work)) file (walk_of most header.order file at) → r ≡ judged_from header file sheet mode output work at most
   unfolding judged_from
   all_judged l m r q = rw m q

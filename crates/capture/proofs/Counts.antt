@@ -10,12 +10,14 @@ use lib.Seq.{length-take-le, get_or-drop}
 use lib.Dec.{eqb}
 use Rattle.ebpf.specs.Run.{run_of}
 use Rattle.savefile.specs.Savefile.{Rec, Walk, stays, after, is_cut, frame_of, counted, next_of, walk_of}
-use Rattle.savefile.specs.declared.Next.TheVariants.{Record, Fault}
+use Rattle.refusals.specs.Refusal.{Answer}
+use Rattle.refusals.specs.Refusal.Answer.{Refused, Given}
+use Rattle.savefile.specs.declared.ByteOrder.{ByteOrder}
+use Rattle.savefile.specs.declared.Record.{Record}
 use Rattle.savefile.proofs.Walks.{faulty, walk_next, walk_fault, walk_end, walk_none}
-use Rattle.capture.specs.Capture.{Always, rec_at, accepts, is_passed, is_dropped, tallied, added, shown_of, judged_walk}
+use Rattle.capture.specs.Capture.{Always, rec_at, accepts, is_passed, is_dropped, tallied, added, judged_walk}
 use Rattle.capture.specs.declared.Tally.{Tally}
-use Rattle.capture.specs.declared.Captured.{Captured}
-use Rattle.capture.specs.declared.Captured.TheVariants.{Refused}
+use Rattle.capture.specs.declared.Counted.{Counted}
 
 take_byte : (n : ℕ) (s : List ℕ) (i : ℕ) → ((p : ℕ) → get_or s p 0 < 256) → get_or (take n s) i 0 < 256
 take_byte zero s i byte = omega arith
@@ -38,22 +40,22 @@ none : (n : ℕ) → n + 0 ≡ n
 none n = omega arith
 
 -- A record in its class.
-module _ (P s : List ℕ) (from captured original : ℕ) (t : Tally) where
-  pub one_cut : captured < original → record { passed = t.passed; dropped = t.dropped; cut = t.cut + 1 } ≡ added P s (rec_at from captured original) t
+module _ (P s : List ℕ) (from : ℕ) (x : Record) (t : Tally) where
+  pub one_cut : x.captured < x.original → record { passed = t.passed; dropped = t.dropped; cut = t.cut + 1 } ≡ added P s (rec_at from x) t
   unfolding added is_passed is_dropped is_cut
-  one_cut h = rw (lt-ltb captured original h, none t.passed, none t.dropped) refl
+  one_cut h = rw (lt-ltb x.captured x.original h, none t.passed, none t.dropped) refl
 
-  module _ (h : original ≤ captured) (n : ℕ) (en : n ≡ captured) (r0 : ℕ) (e : r0 ≡ (run_of P (take n (drop from s)) 0 (length P / 8)).r0) where
-    told : r0 ≡ (run_of P (take captured (drop from s)) 0 (length P / 8)).r0
+  module _ (h : x.original ≤ x.captured) (n : ℕ) (en : n ≡ x.captured) (r0 : ℕ) (e : r0 ≡ (run_of P (take n (drop from s)) 0 (length P / 8)).r0) where
+    told : r0 ≡ (run_of P (take x.captured (drop from s)) 0 (length P / 8)).r0
     told = rw (← en) e
 
-    pub one_passed : r0 ≡ 2 → record { passed = t.passed + 1; dropped = t.dropped; cut = t.cut } ≡ added P s (rec_at from captured original) t
+    pub one_passed : r0 ≡ 2 → record { passed = t.passed + 1; dropped = t.dropped; cut = t.cut } ≡ added P s (rec_at from x) t
     unfolding added is_passed is_dropped is_cut accepts frame_of
-    one_passed q = rw (le-ltb captured original h, ← told, eq-eqb r0 2 q, none t.dropped, none t.cut) refl
+    one_passed q = rw (le-ltb x.captured x.original h, ← told, eq-eqb r0 2 q, none t.dropped, none t.cut) refl
 
-    pub one_dropped : (r0 ≡ 2 → ⊥) → record { passed = t.passed; dropped = t.dropped + 1; cut = t.cut } ≡ added P s (rec_at from captured original) t
+    pub one_dropped : (r0 ≡ 2 → ⊥) → record { passed = t.passed; dropped = t.dropped + 1; cut = t.cut } ≡ added P s (rec_at from x) t
     unfolding added is_passed is_dropped is_cut accepts frame_of
-    one_dropped q = rw (le-ltb captured original h, ← told, ne_eqb r0 2 q, none t.passed, none t.cut) refl
+    one_dropped q = rw (le-ltb x.captured x.original h, ← told, ne_eqb r0 2 q, none t.passed, none t.cut) refl
 
 -- Two counts together.
 unfoldable pub plus : Tally → Tally → Tally
@@ -82,9 +84,12 @@ pub total_next : (P s : List ℕ) (t : Tally) (r : Rec) (at captured : ℕ) → 
 unfolding total added
 total_next P s t r at captured h = omega (arith, at_most (is_passed P s r), at_most (is_dropped P s r), at_most (is_cut r))
 
+abbrev pub counts : Tally → ℕ → Counted
+counts t next = record { tally = t; next = next }
+
 -- What a walk adds to counts.
-unfoldable pub judged_on : Tally → List ℕ → List ℕ → Walk → Captured
-judged_on t P s w = cond (eqb w.fault 0) (shown_of (plus t (tallied P s w.records)) w.next) (Refused w.fault w.next)
+unfoldable pub judged_on : Tally → List ℕ → List ℕ → Walk → Answer Counted
+judged_on t P s w = cond (eqb w.fault 0) (Given (counts (plus t (tallied P s w.records)) w.next)) (Refused w.fault w.next)
 
 pub judged_first : (P s : List ℕ) (w : Walk) → judged_on nothing P s w ≡ judged_walk P s w
 unfolding judged_on judged_walk
@@ -107,24 +112,24 @@ module _ (P s : List ℕ) (t : Tally) where
   unfolding judged_on
   judged_after r w = rw (plus_more r w.records) refl
 
-  judged_stays : (at : ℕ) → shown_of t at ≡ judged_on t P s (stays at)
+  judged_stays : (at : ℕ) → Given (counts t at) ≡ judged_on t P s (stays at)
   unfolding judged_on
   judged_stays at = rw plus_none refl
 
-  module _ (big : Bool) (at left : ℕ) where
+  module _ (order : ByteOrder) (at left : ℕ) where
     -- At the file's end, or with no record left to take.
-    pub judged_end : length s ≤ at → shown_of t at ≡ judged_on t P s (walk_of left big s at)
-    judged_end h = rw (walk_end left big s at h) (judged_stays at)
+    pub judged_end : length s ≤ at → Given (counts t at) ≡ judged_on t P s (walk_of left order s at)
+    judged_end h = rw (walk_end left order s at h) (judged_stays at)
 
-    pub judged_none : left ≤ 0 → shown_of t at ≡ judged_on t P s (walk_of left big s at)
-    judged_none h = rw (walk_none left big s at h) (judged_stays at)
+    pub judged_none : left ≤ 0 → Given (counts t at) ≡ judged_on t P s (walk_of left order s at)
+    judged_none h = rw (walk_none left order s at h) (judged_stays at)
 
     -- One record more, or a fault.
     module _ (some : 0 < left) (more : at < length s) where
-      pub judged_next : (captured original : ℕ) → next_of big s at ≡ Record captured original
-          → judged_on (added P s (rec_at (at + 16) captured original) t) P s (walk_of (left - 1) big s (at + 16 + captured)) ≡ judged_on t P s (walk_of left big s at)
-      judged_next captured original e = rw (walk_next big s at left some more captured original e) (judged_after (rec_at (at + 16) captured original) (walk_of (left - 1) big s (at + 16 + captured)))
+      pub judged_next : (x : Record) → next_of order s at ≡ Given x
+          → judged_on (added P s (rec_at (at + 16) x) t) P s (walk_of (left - 1) order s (at + 16 + x.captured)) ≡ judged_on t P s (walk_of left order s at)
+      judged_next x e = rw (walk_next order s at left some more x e) (judged_after (rec_at (at + 16) x) (walk_of (left - 1) order s (at + 16 + x.captured)))
 
-      pub judged_fault : (number : ℕ) → next_of big s at ≡ Fault number → Refused number at ≡ judged_on t P s (walk_of left big s at)
+      pub judged_fault : (number place : ℕ) → next_of order s at ≡ Refused number place → Refused number place ≡ judged_on t P s (walk_of left order s at)
       unfolding judged_on
-      judged_fault number e = rw (walk_fault big s at left some more number e, faulty big s at number e) refl
+      judged_fault number place e = rw (walk_fault order s at left some more number place e, faulty order s at number place e) refl

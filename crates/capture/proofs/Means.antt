@@ -1,6 +1,6 @@
 -- THEOREM, A1 by the meaning: a judged frame has passed exactly when the expression holds, and every record walked is in one class.
 use Prim.Native.Nat.{ℕ, zero, suc, ◌+◌, ◌/◌, ◌≤◌}
-use mathlib.Core.Path.{◌≡◌, refl, sym, ◌∙◌}
+use mathlib.Core.Path.{◌≡◌, refl, sym, ap, ◌∙◌}
 use mathlib.Core.Bool.{Bool, true, false, not, cond, ◌&&◌}
 use mathlib.Core.List.{List, [], ◌∷◌}
 use native.Mathlib.Omega.{arith}
@@ -10,20 +10,19 @@ use lib.Seq.{length-take-le}
 use lib.Dec.{eqb, ltb}
 use Rattle.program.specs.Ends.{Frame}
 use Rattle.generator.specs.Compile.{outcome_of, answer_of}
-use Rattle.generator.specs.declared.Compiled.{Compiled}
-use Rattle.generator.specs.declared.Compiled.TheVariants as compiled
 use Rattle.sound.specs.Demand.{Bytes, sheet_holds, SmallSheet}
 use Rattle.sound.proofs.Demand3.{passes_exactly}
 use Rattle.savefile.specs.Savefile.{Rec, stays, is_cut, frame_of, counted, next_of, onward, walk_of, file_walk, opened_of}
-use Rattle.savefile.specs.declared.Next.{Next}
-use Rattle.savefile.specs.declared.Next.TheVariants.{Record, Fault}
-use Rattle.savefile.specs.declared.Opened.TheVariants as opened
+use Rattle.refusals.specs.Refusal.{Answer}
+use Rattle.refusals.specs.Refusal.Answer.{Refused, Given}
+use Rattle.savefile.specs.declared.ByteOrder.{ByteOrder}
+use Rattle.savefile.specs.declared.Header.{Header}
+use Rattle.savefile.specs.declared.Record.{Record}
 use Rattle.savefile.proofs.Walks.{inside}
 use Rattle.savefile.proofs.Parts.{through}
 use Rattle.savefile.proofs.Headers.{header_long, opened_header}
-use Rattle.capture.specs.Capture.{rec_at, program_of, accepts, is_passed, is_dropped, tallied, shown_of, judged_walk, unless_refused, judged_from, captured_of, holds_on, fails_on}
-use Rattle.capture.specs.declared.Captured.{Captured}
-use Rattle.capture.specs.declared.Captured.TheVariants.{Counted}
+use Rattle.capture.specs.Capture.{rec_at, program_of, accepts, is_passed, is_dropped, tallied, judged_walk, unless_refused, judged_from, captured_of, holds_on, fails_on}
+use Rattle.capture.specs.declared.Counted.{Counted}
 use Rattle.capture.proofs.Counts.{part_byte}
 use Rattle.capture.proofs.Captures.{written, sized}
 
@@ -39,22 +38,22 @@ classes P s (r ∷ rs) = let h = classes P s rs in let q = one (is_cut r) (accep
     one false false = refl
 
 -- Two tests that agree on every record that lies in the file count the same records.
-module _ (big : Bool) (s : List ℕ) (f g : Rec → Bool) (same : (r : Rec) → r.from + r.captured ≤ length s → r.captured ≤ 16384 → f r ≡ g r) where
-  pub same_count : (most at : ℕ) → counted f (walk_of most big s at).records ≡ counted g (walk_of most big s at).records
+module _ (order : ByteOrder) (s : List ℕ) (f g : Rec → Bool) (same : (r : Rec) → r.from + r.captured ≤ length s → r.captured ≤ 16384 → f r ≡ g r) where
+  pub same_count : (most at : ℕ) → counted f (walk_of most order s at).records ≡ counted g (walk_of most order s at).records
   unfolding walk_of counted
   same_count zero at = refl
-  same_count (suc most) at = on_test (ltb at (length s)) (next_of big s at) refl (λ to. same_count most to)
+  same_count (suc most) at = on_test (ltb at (length s)) (next_of order s at) refl (λ to. same_count most to)
     where
-      on_test : (t : Bool) (x : Next) → next_of big s at ≡ x → ((to : ℕ) → counted f (walk_of most big s to).records ≡ counted g (walk_of most big s to).records)
-          → counted f (cond t (onward x at (λ to. walk_of most big s to)) (stays at)).records ≡ counted g (cond t (onward x at (λ to. walk_of most big s to)) (stays at)).records
-      on_test true (Record captured original) e more =
-          let h = inside big s at captured original e in
-          rw (same (rec_at (at + 16) captured original) h.0 h.1, more (at + 16 + captured)) refl
-      on_test true (Fault number) e more = refl
+      on_test : (t : Bool) (x : Answer Record) → next_of order s at ≡ x → ((to : ℕ) → counted f (walk_of most order s to).records ≡ counted g (walk_of most order s to).records)
+          → counted f (cond t (onward x at (λ to. walk_of most order s to)) (stays at)).records ≡ counted g (cond t (onward x at (λ to. walk_of most order s to)) (stays at)).records
+      on_test true (Given x) e more =
+          let h = inside order s at x e in
+          rw (same (rec_at (at + 16) x) h.0 h.1, more (at + 16 + x.captured)) refl
+      on_test true (Refused number place) e more = refl
       on_test false x e more = refl
 
 -- A sheet that is accepted; in plain mode every comparison constant is below 2^31.
-module _ (sheet : List ℕ) (link mode work l : ℕ) (out : List ℕ) (byte : Bytes sheet) (compiles : answer_of (outcome_of sheet link mode (length out) work) ≡ compiled.Program l)
+module _ (sheet : List ℕ) (link mode work l : ℕ) (out : List ℕ) (byte : Bytes sheet) (compiles : answer_of (outcome_of sheet link mode (length out) work) ≡ Given l)
     (plain : mode ≡ 0 → SmallSheet sheet) (file : List ℕ) (bytes : Bytes file) where
   abbrev prog : List ℕ
   prog = program_of (outcome_of sheet link mode (length out) work)
@@ -73,51 +72,51 @@ module _ (sheet : List ℕ) (link mode work l : ℕ) (out : List ℕ) (byte : By
       two true = refl
       two false = refl
 
-  pub passed_exactly : (big : Bool) (most at : ℕ) → counted (is_passed prog file) (walk_of most big file at).records ≡ counted (holds_on sheet link file) (walk_of most big file at).records
+  pub passed_exactly : (order : ByteOrder) (most at : ℕ) → counted (is_passed prog file) (walk_of most order file at).records ≡ counted (holds_on sheet link file) (walk_of most order file at).records
   unfolding is_passed holds_on
-  passed_exactly big most at = same_count big file (is_passed prog file) (holds_on sheet link file) (λ r room low. rw (accepts_exactly r room low) refl) most at
+  passed_exactly order most at = same_count order file (is_passed prog file) (holds_on sheet link file) (λ r room low. rw (accepts_exactly r room low) refl) most at
 
-  pub dropped_exactly : (big : Bool) (most at : ℕ) → counted (is_dropped prog file) (walk_of most big file at).records ≡ counted (fails_on sheet link file) (walk_of most big file at).records
+  pub dropped_exactly : (order : ByteOrder) (most at : ℕ) → counted (is_dropped prog file) (walk_of most order file at).records ≡ counted (fails_on sheet link file) (walk_of most order file at).records
   unfolding is_dropped fails_on
-  dropped_exactly big most at = same_count big file (is_dropped prog file) (fails_on sheet link file) (λ r room low. rw (accepts_exactly r room low) refl) most at
+  dropped_exactly order most at = same_count order file (is_dropped prog file) (fails_on sheet link file) (λ r room low. rw (accepts_exactly r room low) refl) most at
 
 -- THEOREM: what the counts of a capture say, "each class defined over the file itself".
-pub record Counts (file sheet : List ℕ) (big : Bool) (link passed dropped cut next : ℕ) : Type 0 where
-  pub passes : passed ≡ counted (holds_on sheet link file) (file_walk big file).records
-  pub drops : dropped ≡ counted (fails_on sheet link file) (file_walk big file).records
-  pub cuts : cut ≡ counted is_cut (file_walk big file).records
-  pub adds_up : passed + dropped + cut ≡ length (file_walk big file).records
-  pub to_the_end : next ≡ length file
+pub record Counts (file sheet : List ℕ) (header : Header) (c : Counted) : Type 0 where
+  pub passes : c.tally.passed ≡ counted (holds_on sheet header.link file) (file_walk header.order file).records
+  pub drops : c.tally.dropped ≡ counted (fails_on sheet header.link file) (file_walk header.order file).records
+  pub cuts : c.tally.cut ≡ counted is_cut (file_walk header.order file).records
+  pub adds_up : c.tally.passed + c.tally.dropped + c.tally.cut ≡ length (file_walk header.order file).records
+  pub to_the_end : c.next ≡ length file
 
 module _ (file sheet : List ℕ) (mode work : ℕ) (out : List ℕ) (bytes : Bytes file) (byte : Bytes sheet) (plain : mode ≡ 0 → SmallSheet sheet)
-    (big : Bool) (link : ℕ) (opens : opened_of file ≡ opened.Capture big link) (passed dropped cut next : ℕ) where
-  abbrev judged : Captured
-  judged = judged_walk (program_of (outcome_of sheet link mode (length out) work)) file (file_walk big file)
+    (header : Header) (opens : opened_of file ≡ Given header) (c : Counted) where
+  abbrev judged : Answer Counted
+  judged = judged_walk (program_of (outcome_of sheet header.link mode (length out) work)) file (file_walk header.order file)
 
-  counts_of : (l : ℕ) → answer_of (outcome_of sheet link mode (length out) work) ≡ compiled.Program l → judged ≡ Counted passed dropped cut next → Counts file sheet big link passed dropped cut next
-  unfolding judged_walk shown_of tallied file_walk
+  counts_of : (l : ℕ) → answer_of (outcome_of sheet header.link mode (length out) work) ≡ Given l → judged ≡ Given c → Counts file sheet header c
+  unfolding judged_walk tallied file_walk
   counts_of l m e =
-      let h = opened_header file big link opens in
-      let P = program_of (outcome_of sheet link mode (length out) work) in
-      let w = walk_of (length file) big file 24 in
-      let c : Counted (counted (is_passed P file) w.records) (counted (is_dropped P file) w.records) (counted is_cut w.records) w.next ≡ Counted passed dropped cut next =
-      rw h.sound at e in
-      let ep : counted (is_passed P file) w.records ≡ passed = cc in
-      let ed : counted (is_dropped P file) w.records ≡ dropped = cc in
-      let ec : counted is_cut w.records ≡ cut = cc in
-      let en : w.next ≡ next = cc in
+      let h = opened_header file header opens in
+      let P = program_of (outcome_of sheet header.link mode (length out) work) in
+      let w = walk_of (length file) header.order file 24 in
+      let k : Answer.Given (record { tally = tallied P file w.records; next = w.next }) ≡ Given c = rw h.sound at e in
+      let q : record { tally = tallied P file w.records; next = w.next } ≡ c = cc in
+      let ep : counted (is_passed P file) w.records ≡ c.tally.passed = ap (λ (x : Counted). x.tally.passed) q in
+      let ed : counted (is_dropped P file) w.records ≡ c.tally.dropped = ap (λ (x : Counted). x.tally.dropped) q in
+      let ec : counted is_cut w.records ≡ c.tally.cut = ap (λ (x : Counted). x.tally.cut) q in
+      let en : w.next ≡ c.next = ap (λ (x : Counted). x.next) q in
       record {
-        passes = sym ep ∙ passed_exactly sheet link mode work l out byte m plain file bytes big (length file) 24;
-        drops = sym ed ∙ dropped_exactly sheet link mode work l out byte m plain file bytes big (length file) 24;
+        passes = sym ep ∙ passed_exactly sheet header.link mode work l out byte m plain file bytes header.order (length file) 24;
+        drops = sym ed ∙ dropped_exactly sheet header.link mode work l out byte m plain file bytes header.order (length file) 24;
         cuts = sym ec;
         adds_up = omega (arith, ep, ed, ec, classes P file w.records);
-        to_the_end = sym en ∙ through big file (length file) 24 (header_long file big link h.header) (omega arith) (eqb-true _ _ h.sound);
+        to_the_end = sym en ∙ through header.order file (length file) 24 (header_long file header h.header) (omega arith) (eqb-true _ _ h.sound);
       }
 
-  pub counts_exactly : captured_of file sheet mode (length out) work ≡ Counted passed dropped cut next → Counts file sheet big link passed dropped cut next
+  pub counts_exactly : captured_of file sheet mode (length out) work ≡ Given c → Counts file sheet header c
   unfolding captured_of judged_from file_walk
-  counts_exactly e = go (answer_of (outcome_of sheet link mode (length out) work)) refl (rw opens at e)
+  counts_exactly e = go (answer_of (outcome_of sheet header.link mode (length out) work)) refl (rw opens at e)
     where
-      go : (x : Compiled) → answer_of (outcome_of sheet link mode (length out) work) ≡ x → unless_refused x judged ≡ Counted passed dropped cut next → Counts file sheet big link passed dropped cut next
-      go (compiled.Refused number place) m q = let z : ◌≡◌ {A = ℕ} 0 1 = cc in absurd (omega arith)
-      go (compiled.Program l) m q = counts_of l m q
+      go : (x : Answer ℕ) → answer_of (outcome_of sheet header.link mode (length out) work) ≡ x → unless_refused x judged ≡ Given c → Counts file sheet header c
+      go (Refused number place) m q = let z : ◌≡◌ {A = ℕ} 0 1 = cc in absurd (omega arith)
+      go (Given l) m q = counts_of l m q

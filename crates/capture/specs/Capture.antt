@@ -4,16 +4,15 @@ use Rattle.ebpf.specs.Run.{run_of}
 use Rattle.program.specs.Program.{code_of}
 use Rattle.patches.specs.Listing.CompL.{stopped_l, made_l}
 use Rattle.savefile.specs.Savefile.{Rec, Walk, is_cut, frame_of, counted, walk_of, header_of, opened_of}
-use Rattle.savefile.specs.declared.Opened.{Opened}
-use Rattle.savefile.specs.declared.Opened.TheVariants as opened
+use Rattle.refusals.specs.Refusal.{Answer}
+use Rattle.refusals.specs.Refusal.Answer.{Refused, Given}
+use Rattle.savefile.specs.declared.Header.{Header}
+use Rattle.savefile.specs.declared.Record.{Record}
 use Rattle.generator.specs.Compile.{Outcome, outcome_of, answer_of, output_after, work_after}
 use Rattle.generator.specs.Compile.Outcome.{early, late}
-use Rattle.generator.specs.declared.Compiled.{Compiled}
-use Rattle.generator.specs.declared.Compiled.TheVariants as compiled
 use Rattle.sound.specs.Demand.{sheet_holds}
 use Rattle.capture.specs.declared.Tally.{Tally}
-use Rattle.capture.specs.declared.Captured.{Captured}
-use Rattle.capture.specs.declared.Captured.TheVariants.{Refused, Counted}
+use Rattle.capture.specs.declared.Counted.{Counted}
 
 -- The bytes of the program that `compile` makes, if it makes one.
 unfoldable pub program_of : Outcome → List ℕ
@@ -36,44 +35,42 @@ unfoldable pub tallied : List ℕ → List ℕ → List Rec → Tally
 tallied program file rs =
     record { passed = counted (is_passed program file) rs; dropped = counted (is_dropped program file) rs; cut = counted is_cut rs }
 
-unfoldable pub shown_of : Tally → ℕ → Captured
-shown_of t next = Counted t.passed t.dropped t.cut next
-
 -- The counts of a walk without fault and where to go on; or the fault, and where its record starts.
-unfoldable pub judged_walk : List ℕ → List ℕ → Walk → Captured
-judged_walk program file w = cond (eqb w.fault 0) (shown_of (tallied program file w.records) w.next) (Refused w.fault w.next)
+unfoldable pub judged_walk : List ℕ → List ℕ → Walk → Answer Counted
+judged_walk program file w = cond (eqb w.fault 0) (Given (record { tally = tallied program file w.records; next = w.next })) (Refused w.fault w.next)
 
 -- One of document 01's refusals comes before the records.
-abbrev pub unless_refused : Compiled → Captured → Captured
-unless_refused (compiled.Refused number place) r = Refused number place
-unless_refused (compiled.Program l) r = r
+abbrev pub unless_refused : Answer ℕ → Answer Counted → Answer Counted
+unless_refused (Refused number place) r = Refused number place
+unless_refused (Given l) r = r
 
 -- For a sheet, a mode, so many bytes of output and so many numbers of work: at most `most` records of a file from the place `at` on.
-unfoldable pub judged_from : Bool → ℕ → List ℕ → List ℕ → ℕ → ℕ → ℕ → ℕ → ℕ → Captured
-judged_from big link file sheet mode output work at most =
-    unless_refused (answer_of (outcome_of sheet link mode output work)) (judged_walk (program_of (outcome_of sheet link mode output work)) file (walk_of most big file at))
+unfoldable pub judged_from : Header → List ℕ → List ℕ → ℕ → ℕ → ℕ → ℕ → ℕ → Answer Counted
+judged_from header file sheet mode output work at most =
+    let o = outcome_of sheet header.link mode output work in
+    unless_refused (answer_of o) (judged_walk (program_of o) file (walk_of most header.order file at))
 
 -- "The link type field picks the link for which the sheet is compiled."
-abbrev pub judged_in : Opened → List ℕ → List ℕ → ℕ → ℕ → ℕ → ℕ → ℕ → Captured
-judged_in (opened.Capture big link) file sheet mode output work at most = judged_from big link file sheet mode output work at most
-judged_in (opened.Refused number place) file sheet mode output work at most = Refused number place
+abbrev pub judged_in : Answer Header → List ℕ → List ℕ → ℕ → ℕ → ℕ → ℕ → ℕ → Answer Counted
+judged_in (Given header) file sheet mode output work at most = judged_from header file sheet mode output work at most
+judged_in (Refused number place) file sheet mode output work at most = Refused number place
 
 -- A part of a file: its header, then the sheet, then at most `most` records from the place `at` on.
-unfoldable pub part_of : List ℕ → List ℕ → ℕ → ℕ → ℕ → ℕ → ℕ → Captured
+unfoldable pub part_of : List ℕ → List ℕ → ℕ → ℕ → ℕ → ℕ → ℕ → Answer Counted
 part_of file sheet mode output work at most = judged_in (header_of file) file sheet mode output work at most
 
 -- The whole file: 40 to 43 "looked for in file order through the whole file, then document 01's".
-unfoldable pub captured_of : List ℕ → List ℕ → ℕ → ℕ → ℕ → Captured
+unfoldable pub captured_of : List ℕ → List ℕ → ℕ → ℕ → ℕ → Answer Counted
 captured_of file sheet mode output work = judged_in (opened_of file) file sheet mode output work 24 (length file)
 
 -- "40 to 43 touch no buffer"; else output and work are what `compile` leaves.
-unfoldable pub output_in : Opened → List ℕ → ℕ → ℕ → List ℕ → List ℕ
-output_in (opened.Capture big link) sheet mode work output = output_after (outcome_of sheet link mode (length output) work) output
-output_in (opened.Refused number place) sheet mode work output = output
+unfoldable pub output_in : Answer Header → List ℕ → ℕ → ℕ → List ℕ → List ℕ
+output_in (Given header) sheet mode work output = output_after (outcome_of sheet header.link mode (length output) work) output
+output_in (Refused number place) sheet mode work output = output
 
-unfoldable pub work_in : Opened → List ℕ → ℕ → ℕ → List ℕ → List ℕ
-work_in (opened.Capture big link) sheet mode output work = work_after (outcome_of sheet link mode output (length work)) work
-work_in (opened.Refused number place) sheet mode output work = work
+unfoldable pub work_in : Answer Header → List ℕ → ℕ → ℕ → List ℕ → List ℕ
+work_in (Given header) sheet mode output work = work_after (outcome_of sheet header.link mode output (length work)) work
+work_in (Refused number place) sheet mode output work = work
 
 -- "Demand 3 holds for each judged frame": a record that is not cut and on whose frame the sheet's expression holds, or does not.
 unfoldable pub holds_on : List ℕ → ℕ → List ℕ → Rec → Bool
@@ -95,5 +92,5 @@ added program file r t =
       cut = t.cut + cond (is_cut r) 1 0;
     }
 
-abbrev pub rec_at : ℕ → ℕ → ℕ → Rec
-rec_at from captured original = record { from = from; captured = captured; original = original }
+abbrev pub rec_at : ℕ → Record → Rec
+rec_at from r = record { from = from; captured = r.captured; original = r.original }

@@ -29,13 +29,13 @@ use Rattle.filter.specs.declared.ast.Layer.TheVariants as layers
 use Rattle.filter.specs.declared.ast.Primitive.{Primitive}
 use Rattle.filter.specs.declared.ast.Primitive.TheVariants.{Host, Host6, Port, PortRange, Net, Net6, Proto, EtherHost, EtherProto, EtherMulticast, IpBroadcast, IpMulticast, Ip6Multicast, Vlan, Mpls, PppoeDiscovery, PppoeSession, IpProtoChain, Ip6ProtoChain, Len, Inbound, Outbound, ByteAccess}
 use Rattle.tree.specs.Tokens.{count, is_jump}
+use Rattle.refusals.specs.Refusal.{Answer}
+use Rattle.refusals.specs.Refusal.Answer.{Refused, Given}
+use Rattle.checks.specs.declared.measure.Measured.{Measured}
 use Rattle.checks.specs.Check.{takes, steps_before, one_tree, complete, far_offset, shift_at, lowest_wrong, check_accesses, check_parts, check_sections, check_of}
 use Rattle.checks.specs.Refusal.{refusal}
 use Rattle.checks.specs.Length.{by_ether, ethertype_size, sides, clip, net6_side, l4_size, prereq_size, dual_size, proto_size, id_size, label_size, cmp_size, swap_size, layer_size, access_size, count_of, size_of, size_at, sizes_of, program_length}
-use Rattle.checks.specs.declared.check.Checked.{Checked}
-use Rattle.checks.specs.declared.check.Checked.TheVariants.{Refused, Good}
-use Rattle.checks.specs.Measure.{measured, measure_of}
-use Rattle.checks.specs.declared.measure.Measured.TheVariants.{Length}
+use Rattle.checks.specs.Measure.{asks, measured, measure_of}
 use Rattle.tree.specs.Shape.{shape_of}
 
 -- the steps that a primitive takes
@@ -274,7 +274,7 @@ second_true true y e = e
 second_true false y e = let never : ◌≡◌ {A = ℕ} 0 1 = cc in absurd (omega arith)
 
 -- no refusal is found in the parts of an accepted sheet
-pub good_parts : (link : LinkType) (steps prims tokens : List ℕ) (a b c : ℕ) {x y z : ℕ} → check_parts link steps prims tokens a b c ≡ Good x y z
+pub good_parts : (link : LinkType) (steps prims tokens : List ℕ) (a b c : ℕ) {x y z : ℕ} → check_parts link steps prims tokens a b c ≡ Given (counts x y z)
     → Accepted link steps prims tokens a b c × (x ≡ a) × (y ≡ b) × (z ≡ c)
 unfolding check_parts check_accesses complete
 good_parts link steps prims tokens a b c {x} {y} {z} =
@@ -283,24 +283,25 @@ good_parts link steps prims tokens a b c {x} {y} {z} =
   where
     go : (p q r t : Bool) → ltb (lowest_wrong steps prims tokens a b c) (5 * a + 24 * b + c + 6) ≡ p → one_tree (shape_of tokens) b && eqb (steps_before prims b) a ≡ q
         → ltb (first (far_offset link prims) b 0) b ≡ r → ltb (first (shift_at steps prims) b 0) b ≡ t
-        → cond p (Refused 3 (lowest_wrong steps prims tokens a b c)) (cond q (cond r (Refused 5 (first (far_offset link prims) b 0)) (cond t (Refused 6 (first (shift_at steps prims) b 0)) (Good a b c))) (Refused 4 0)) ≡ Good x y z
+        → cond p (Refused 3 (lowest_wrong steps prims tokens a b c)) (cond q (cond r (Refused 5 (first (far_offset link prims) b 0)) (cond t (Refused 6 (first (shift_at steps prims) b 0)) (Given (counts a b c)))) (Refused 4 0)) ≡ Given (counts x y z)
         → Accepted link steps prims tokens a b c × (x ≡ a) × (y ≡ b) × (z ≡ c)
     go true q r t ep eq er et e = let never : ◌≡◌ {A = ℕ} 0 1 = cc in absurd (omega arith)
     go false false r t ep eq er et e = let never : ◌≡◌ {A = ℕ} 0 1 = cc in absurd (omega arith)
     go false true true t ep eq er et e = let never : ◌≡◌ {A = ℕ} 0 1 = cc in absurd (omega arith)
     go false true false true ep eq er et e = let never : ◌≡◌ {A = ℕ} 0 1 = cc in absurd (omega arith)
-    go false true false false ep eq er et e = (
-      record {
-        right = ltb-false _ _ ep;
-        whole = first_true _ _ eq;
-        taken = eqb-true _ _ (second_true (one_tree (shape_of tokens) b) _ eq);
-        near = ltb-false _ _ er;
-        short = ltb-false _ _ et;
-      },
-      cc,
-      cc,
-      cc,
-    )
+    go false true false false ep eq er et e =
+        let q : counts a b c ≡ counts x y z = cc in (
+          record {
+            right = ltb-false _ _ ep;
+            whole = first_true _ _ eq;
+            taken = eqb-true _ _ (second_true (one_tree (shape_of tokens) b) _ eq);
+            near = ltb-false _ _ er;
+            short = ltb-false _ _ et;
+          },
+          sym (ap (λ (k : Counts). k.steps) q),
+          sym (ap (λ (k : Counts). k.prims) q),
+          sym (ap (λ (k : Counts). k.tokens) q),
+        )
 
 -- none of refusals 1 to 6
 pub record Taken (s : List ℕ) (link a b c : ℕ) : Type 0 where
@@ -314,11 +315,11 @@ moved s link {a} {b} {c} {x} {y} {z} p q r t =
     (subst (λ (n : ℕ). Taken s link x n c) (sym q) (subst (λ (n : ℕ). Taken s link x y n) (sym r) t))
 
 -- a sheet that is accepted, with these counts
-pub good : (s : List ℕ) (link : ℕ) {a b c : ℕ} → check_of s link ≡ Good a b c → Taken s link a b c
+pub good : (s : List ℕ) (link : ℕ) {a b c : ℕ} → check_of s link ≡ Given (counts a b c) → Taken s link a b c
 unfolding check_of check_sections
 good s link {a} {b} {c} = on_link (ltb 2 link) refl
   where
-    on_sections : (x : Option Counts) → link ≤ 2 → sections_of s ≡ x → check_sections (link_of link) s x ≡ Good a b c → Taken s link a b c
+    on_sections : (x : Option Counts) → link ≤ 2 → sections_of s ≡ x → check_sections (link_of link) s x ≡ Given (counts a b c) → Taken s link a b c
     on_sections (Some n) h f e =
         let g =
         good_parts
@@ -333,27 +334,28 @@ good s link {a} {b} {c} = on_link (ltb 2 link) refl
         moved s link g.1 g.2 g.3 (record { low = h; found = f; parts = g.0 })
     on_sections None h f e = let never : ◌≡◌ {A = ℕ} 0 1 = cc in absurd (omega arith)
 
-    on_link : (t : Bool) → ltb 2 link ≡ t → cond t (Refused 1 0) (check_sections (link_of link) s (sections_of s)) ≡ Good a b c → Taken s link a b c
+    on_link : (t : Bool) → ltb 2 link ≡ t → cond t (Refused 1 0) (check_sections (link_of link) s (sections_of s)) ≡ Given (counts a b c) → Taken s link a b c
     on_link true h e = let never : ◌≡◌ {A = ℕ} 0 1 = cc in absurd (omega arith)
     on_link false h e = on_sections (sections_of s) (ltb-false 2 link h) refl e
 
 -- an accepted sheet's L
-pub good_length : (s : List ℕ) (link : ℕ) {a b c : ℕ} → check_of s link ≡ Good a b c
+pub good_length : (s : List ℕ) (link : ℕ) {a b c : ℕ} → check_of s link ≡ Given (counts a b c)
     → program_length (link_of link) (steps_part s a) (prims_part s a b) (tokens_part s a b c) b c ≤ 6 + c + 128 * b + a
 good_length s link {a} {b} {c} e =
     let t = (good s link e).parts.taken in
     omega (arith, length_le (link_of link) (steps_part s a) (prims_part s a b) (tokens_part s a b c) b c)
 
 -- a measured sheet's L
-pub measured_length : (s : List ℕ) (link : ℕ) {a b c l : ℕ} → measure_of s link ≡ Length a b c l → l ≤ 6 + c + 128 * b + a
+pub measured_length : (s : List ℕ) (link : ℕ) {a b c l : ℕ} → measure_of s link ≡ Given (asks (counts a b c) l) → l ≤ 6 + c + 128 * b + a
 unfolding measure_of measured
 measured_length s link {a} {b} {c} {l} = on_check (check_of s link) refl
   where
-    on_check : (x : Checked) → check_of s link ≡ x → measured x s link ≡ Length a b c l → l ≤ 6 + c + 128 * b + a
+    on_check : (x : Answer Counts) → check_of s link ≡ x → measured x s link ≡ Given (asks (counts a b c) l) → l ≤ 6 + c + 128 * b + a
     on_check (Refused number place) e m = let never : ◌≡◌ {A = ℕ} 0 1 = cc in absurd (omega arith)
-    on_check (Good x y z) e m =
-        let ea : a ≡ x = cc in
-        let eb : b ≡ y = cc in
-        let ec : c ≡ z = cc in
-        let el : l ≡ program_length (link_of link) (steps_part s x) (prims_part s x y) (tokens_part s x y z) y z = cc in
+    on_check (Given n) e m =
+        let q : asks n (program_length (link_of link) (steps_part s n.steps) (prims_part s n.steps n.prims) (tokens_part s n.steps n.prims n.tokens) n.prims n.tokens) ≡ asks (counts a b c) l = cc in
+        let ea : n.steps ≡ a = ap (λ (m : Measured). m.counts.steps) q in
+        let eb : n.prims ≡ b = ap (λ (m : Measured). m.counts.prims) q in
+        let ec : n.tokens ≡ c = ap (λ (m : Measured). m.counts.tokens) q in
+        let el : program_length (link_of link) (steps_part s n.steps) (prims_part s n.steps n.prims) (tokens_part s n.steps n.prims n.tokens) n.prims n.tokens ≡ l = ap (λ (m : Measured). m.length) q in
         omega (arith, good_length s link e)

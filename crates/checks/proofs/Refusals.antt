@@ -7,12 +7,6 @@ use borrow.Author.Tests.{ne_eqb}
 use Rattle.checks.specs.Refusal.{step_refusal, steps_refusal}
 use Rattle.filter.proofs.Firsts.{suc_of}
 
-pub refusal_all : (steps : List ℕ) (n from : ℕ) → steps_refusal steps n from ≡ steps_refusal steps (n - 0) (from + 0)
-refusal_all steps n from =
-    let z : n - 0 ≡ n = omega arith in
-    let y : from + 0 ≡ from = omega arith in
-    rw (z, y)
-
 pub refusal_none : (steps : List ℕ) (n from k : ℕ) → n ≤ k → steps_refusal steps (n - k) (from + k) ≡ 0
 unfolding steps_refusal
 refusal_none steps n from k h = let z : n - k ≡ 0 = omega arith in rw z

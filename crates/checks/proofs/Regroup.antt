@@ -18,8 +18,9 @@ use Rattle.tree.specs.Regroup.{Regrouped}
 use Rattle.tree.proofs.Exact.{whole_flat}
 use Rattle.tree.proofs.Regroup.{same_leaves, same_tokens, tokens_low}
 use Rattle.checks.specs.Check.{wrong_in, sheet_wrong, lowest_wrong, complete, check_parts, check_sections, check_of}
-use Rattle.checks.specs.declared.check.Checked.{Checked}
-use Rattle.checks.specs.declared.check.Checked.TheVariants.{Refused}
+use Rattle.refusals.specs.Refusal.{Answer}
+use Rattle.refusals.specs.Refusal.Answer.{Refused}
+use Rattle.filter.specs.declared.sheet.Counts.{Counts}
 
 -- No token of a tree is wrong.
 fine : (t : Tree) (j : ℕ) → token_wrong (flat t) j ≡ false
@@ -64,7 +65,7 @@ pub check_regroups : (front : List ℕ) → Front front → {t u : Tree} → Reg
 check_regroups front whole {t} {u} r link =
     written_check front whole (flat t) link
     ∙ ap (λ (n : ℕ). cond (ltb 2 link) (Refused 1 0) (check_parts (link_of link) steps prims (flat t) (step_count front) (prim_count front) n)) (same_tokens r)
-    ∙ ap (λ (x : Checked). cond (ltb 2 link) (Refused 1 0) x) (parts_regroup r (link_of link) steps prims (step_count front) (prim_count front) (length (flat u)))
+    ∙ ap (λ (x : Answer Counts). cond (ltb 2 link) (Refused 1 0) x) (parts_regroup r (link_of link) steps prims (step_count front) (prim_count front) (length (flat u)))
     ∙ sym (written_check front whole (flat u) link)
   where
     steps : List ℕ

@@ -1,6 +1,7 @@
 -- Any two answers that a public function's contract allows are equal: the result, and the last value of everything lent.
 use mathlib.Core.Path.{refl, sym, ◌∙◌}
 use Rattle.unique.proofs.Unique.{Unique, by_result, unique, plain}
+use Rattle.refusals.proofs.Numbers.{one_told, one_earned}
 use Rattle.checks.specs.contracts as crate
 
 pub takes_steps : Unique crate.check.takes_steps.ended (λ M 𝓤 𝓛. crate.check.takes_steps.clauses 𝓛)
@@ -28,16 +29,16 @@ pub first_shift : Unique crate.check.first_shift.ended (λ M 𝓤 𝓛. crate.ch
 first_shift = by_result _ (λ κs a ws ws'. refl)
 
 pub check_parts : Unique crate.check.check_parts.ended (λ M 𝓤 𝓛. crate.check.check_parts.clauses 𝓛)
-check_parts = by_result _ (λ κs a ws ws'. refl)
+check_parts = unique (plain _) (λ κs a r r' ws ws' p q. (one_told r r' (p ∙ sym q), refl))
 
 pub check_whole : Unique crate.check.check_whole.ended (λ M 𝓤 𝓛. crate.check.check_whole.clauses 𝓛)
-check_whole = by_result _ (λ κs a ws ws'. refl)
+check_whole = unique (plain _) (λ κs a r r' ws ws' p q. (one_told r r' (p ∙ sym q), refl))
 
 pub check_sheet : Unique crate.check.check_sheet.ended (λ M 𝓤 𝓛. crate.check.check_sheet.clauses 𝓛)
-check_sheet = by_result _ (λ κs a ws ws'. refl)
+check_sheet = unique (plain _) (λ κs a r r' ws ws' p q. (one_told r r' (p ∙ sym q), refl))
 
 pub check_sheet_mode : Unique crate.check.check_sheet_mode.ended (λ M 𝓤 𝓛. crate.check.check_sheet_mode.clauses 𝓛)
-check_sheet_mode = by_result _ (λ κs a ws ws'. refl)
+check_sheet_mode = unique (plain _) (λ κs a r r' ws ws' p q. (one_told r r' (p ∙ sym q), refl))
 
 pub count_of : Unique crate.length.count_of.ended (λ M 𝓤 𝓛. crate.length.count_of.clauses 𝓛)
 count_of = by_result _ (λ κs a ws ws'. refl)
@@ -55,10 +56,10 @@ pub program_length : Unique crate.length.program_length.ended (λ M 𝓤 𝓛. c
 program_length = by_result _ (λ κs a ws ws'. refl)
 
 pub measure : Unique crate.measure.measure.ended (λ M 𝓤 𝓛. crate.measure.measure.clauses 𝓛)
-measure = by_result _ (λ κs a ws ws'. refl)
+measure = unique (plain _) (λ κs a r r' ws ws' p q. (one_told r r' (p ∙ sym q), refl))
 
 pub admit : Unique crate.measure.admit.ended (λ M 𝓤 𝓛. crate.measure.admit.clauses 𝓛)
-admit = by_result _ (λ κs a ws ws'. refl)
+admit = unique (plain _) (λ κs a r r' ws ws' p q. (one_told r r' (p ∙ sym q), refl))
 
 pub refusal_of : Unique crate.refusal.refusal_of.ended (λ M 𝓤 𝓛. crate.refusal.refusal_of.clauses 𝓛)
-refusal_of = by_result _ (λ κs a ws ws'. refl)
+refusal_of = unique (plain _) (λ κs a r r' ws ws' p q. (one_earned r r' (p ∙ sym q), refl))

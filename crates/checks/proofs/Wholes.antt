@@ -1,6 +1,6 @@
 -- Refusals 2 to 4 apart from those for which a link is asked.
 use Prim.Native.Nat.{ℕ, ◌+◌, ◌*◌, ◌≤◌}
-use mathlib.Core.Path.{◌≡◌, refl, sym, subst}
+use mathlib.Core.Path.{◌≡◌, refl, sym, ap, subst}
 use mathlib.Core.Bool.{Bool, true, false, cond, ◌&&◌}
 use mathlib.Core.List.{List}
 use native.Mathlib.Omega.{arith}
@@ -19,8 +19,8 @@ use Rattle.tree.specs.Tree.{Tree, flat, leaves}
 use Rattle.tree.proofs.Exact.{whole_flat}
 use Rattle.tree.proofs.Regroup.{tokens_low}
 use Rattle.checks.specs.Check.{steps_before, one_tree, complete, lowest_wrong, check_accesses, check_parts, check_sections, check_of, whole_parts, whole_sections, whole_of}
-use Rattle.checks.specs.declared.check.Checked.{Checked}
-use Rattle.checks.specs.declared.check.Checked.TheVariants.{Refused, Good}
+use Rattle.refusals.specs.Refusal.{Answer}
+use Rattle.refusals.specs.Refusal.Answer.{Refused, Given}
 use Rattle.checks.proofs.Bounds.{first_true, second_true}
 use Rattle.checks.proofs.Places.{lowest_step, lowest_record, lowest_token}
 
@@ -31,7 +31,7 @@ pub record Right (steps prims tokens : List ℕ) (a b c : ℕ) : Type 0 where
   pub taken : steps_before prims b ≡ a
 
 module _ (steps prims tokens : List ℕ) (a b c : ℕ) where
-  abbrev looked : Checked → Checked
+  abbrev looked : Answer Counts → Answer Counts
   looked further = whole_parts steps prims tokens a b c further
 
   -- the two tests
@@ -39,37 +39,38 @@ module _ (steps prims tokens : List ℕ) (a b c : ℕ) where
   wrong = ltb (lowest_wrong steps prims tokens a b c) (5 * a + 24 * b + c + 6)
 
   -- where both are passed, what is found further on decides
-  pub goes_on : Right steps prims tokens a b c → (further : Checked) → looked further ≡ further
+  pub goes_on : Right steps prims tokens a b c → (further : Answer Counts) → looked further ≡ further
   unfolding complete
   goes_on r further =
       let lowest = lowest_wrong steps prims tokens a b c in
       rw (le-ltb lowest (5 * a + 24 * b + c + 6) r.right, r.whole, eq-eqb (steps_before prims b) a r.taken)
 
-  pub good_shape : {x y z : ℕ} → looked (Good a b c) ≡ Good x y z → Right steps prims tokens a b c × (x ≡ a) × (y ≡ b) × (z ≡ c)
+  pub good_shape : {x y z : ℕ} → looked (Given (counts a b c)) ≡ Given (counts x y z) → Right steps prims tokens a b c × (x ≡ a) × (y ≡ b) × (z ≡ c)
   unfolding complete
   good_shape {x} {y} {z} = go wrong (one_tree (shape_of tokens) b && eqb (steps_before prims b) a) refl refl
     where
       go : (p q : Bool) → wrong ≡ p → one_tree (shape_of tokens) b && eqb (steps_before prims b) a ≡ q
-          → cond p (Refused 3 (lowest_wrong steps prims tokens a b c)) (cond q (Good a b c) (Refused 4 0)) ≡ Good x y z
+          → cond p (Refused 3 (lowest_wrong steps prims tokens a b c)) (cond q (Given (counts a b c)) (Refused 4 0)) ≡ Given (counts x y z)
           → Right steps prims tokens a b c × (x ≡ a) × (y ≡ b) × (z ≡ c)
       go true q ep eq e = let never : ◌≡◌ {A = ℕ} 0 1 = cc in absurd (omega arith)
       go false false ep eq e = let never : ◌≡◌ {A = ℕ} 0 1 = cc in absurd (omega arith)
-      go false true ep eq e = (
-        record {
-          right = ltb-false _ _ ep;
-          whole = first_true _ _ eq;
-          taken = eqb-true _ _ (second_true (one_tree (shape_of tokens) b) _ eq);
-        },
-        cc,
-        cc,
-        cc,
-      )
+      go false true ep eq e =
+          let q : counts a b c ≡ counts x y z = cc in (
+            record {
+              right = ltb-false _ _ ep;
+              whole = first_true _ _ eq;
+              taken = eqb-true _ _ (second_true (one_tree (shape_of tokens) b) _ eq);
+            },
+            sym (ap (λ (k : Counts). k.steps) q),
+            sym (ap (λ (k : Counts). k.prims) q),
+            sym (ap (λ (k : Counts). k.tokens) q),
+          )
 
   -- where one is not, nothing further on is looked at
-  pub stops_here : {n p : ℕ} (further : Checked) → looked (Good a b c) ≡ Refused n p → Refused n p ≡ looked further
+  pub stops_here : {n p : ℕ} (further : Answer Counts) → looked (Given (counts a b c)) ≡ Refused n p → Refused n p ≡ looked further
   stops_here {n} {p} further = go wrong (complete prims tokens a b)
     where
-      go : (u v : Bool) → cond u (Refused 3 (lowest_wrong steps prims tokens a b c)) (cond v (Good a b c) (Refused 4 0)) ≡ Refused n p
+      go : (u v : Bool) → cond u (Refused 3 (lowest_wrong steps prims tokens a b c)) (cond v (Given (counts a b c)) (Refused 4 0)) ≡ Refused n p
           → Refused n p ≡ cond u (Refused 3 (lowest_wrong steps prims tokens a b c)) (cond v further (Refused 4 0))
       go true v e = sym e
       go false false e = sym e
@@ -111,7 +112,7 @@ pub record Sorted (s : List ℕ) (a b c : ℕ) : Type 0 where
   pub found : sections_of s ≡ Some (counts a b c)
   pub parts : Right (steps_part s a) (prims_part s a b) (tokens_part s a b c) a b c
 
-pub sorted : (s : List ℕ) {a b c : ℕ} → whole_of s ≡ Good a b c → Sorted s a b c
+pub sorted : (s : List ℕ) {a b c : ℕ} → whole_of s ≡ Given (counts a b c) → Sorted s a b c
 unfolding whole_of whole_sections
 sorted s {a} {b} {c} = go (sections_of s) refl
   where
@@ -120,7 +121,7 @@ sorted s {a} {b} {c} = go (sections_of s) refl
         subst (λ (n : ℕ). Sorted s n b c) (sym p)
         (subst (λ (n : ℕ). Sorted s x n c) (sym q) (subst (λ (n : ℕ). Sorted s x y n) (sym r) t))
 
-    go : (x : Option Counts) → sections_of s ≡ x → whole_sections s x ≡ Good a b c → Sorted s a b c
+    go : (x : Option Counts) → sections_of s ≡ x → whole_sections s x ≡ Given (counts a b c) → Sorted s a b c
     go (Some n) f e =
         let g =
         good_shape
@@ -134,10 +135,10 @@ sorted s {a} {b} {c} = go (sections_of s) refl
         moved g.1 g.2 g.3 (record { found = f; parts = g.0 })
     go None f e = let never : ◌≡◌ {A = ℕ} 0 1 = cc in absurd (omega arith)
 
-pub sorted_whole : (s : List ℕ) {a b c : ℕ} → Sorted s a b c → whole_of s ≡ Good a b c
+pub sorted_whole : (s : List ℕ) {a b c : ℕ} → Sorted s a b c → whole_of s ≡ Given (counts a b c)
 unfolding whole_of whole_sections
 sorted_whole s {a} {b} {c} t =
-    rw t.found (goes_on (steps_part s a) (prims_part s a b) (tokens_part s a b c) a b c t.parts (Good a b c))
+    rw t.found (goes_on (steps_part s a) (prims_part s a b) (tokens_part s a b c) a b c t.parts (Given (counts a b c)))
 
 -- what refusals 1 to 6 still look at in such a sheet
 pub sorted_check : (s : List ℕ) {a b c : ℕ} → Sorted s a b c → (link : ℕ)

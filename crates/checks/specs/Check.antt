@@ -5,7 +5,7 @@ use Rattle.filter.specs.Bytes.{be2}
 use Rattle.filter.specs.Ast.{link_of, net_offset}
 use Rattle.filter.specs.First.{first, any}
 use Rattle.filter.specs.Record.{access_at, step_at}
-use Rattle.filter.specs.Sheet.{sections_of, steps_part, prims_part, tokens_part}
+use Rattle.filter.specs.Sheet.{counts, sections_of, steps_part, prims_part, tokens_part}
 use Rattle.filter.specs.Wrong.{record_wrong, step_wrong, token_wrong}
 use Rattle.filter.specs.declared.ast.LinkType.{LinkType}
 use Rattle.filter.specs.declared.ast.Layer.{Layer}
@@ -14,8 +14,8 @@ use Rattle.filter.specs.declared.ast.ArithOp.{ArithOp}
 use Rattle.filter.specs.declared.ast.ArithOp.TheVariants.{Add, Sub, Mul, Div, Mod, And, Or, Xor, Shl, Shr}
 use Rattle.filter.specs.declared.ast.ByteAccess.{ByteAccess}
 use Rattle.tree.specs.Shape.{shape_of}
-use Rattle.checks.specs.declared.check.Checked.{Checked}
-use Rattle.checks.specs.declared.check.Checked.TheVariants.{Refused, Good}
+use Rattle.refusals.specs.Refusal.{Answer}
+use Rattle.refusals.specs.Refusal.Answer.{Refused, Given}
 
 -- byte j of the sheet lies in the part of n bytes that starts at `from`, and is wrong there
 unfoldable pub wrong_in : ℕ → ℕ → (ℕ → Bool) → ℕ → Bool
@@ -86,43 +86,43 @@ unfoldable pub shift_at : List ℕ → List ℕ → ℕ → Bool
 shift_at steps prims i = any (big_shift steps) (takes prims i) (steps_before prims i)
 
 -- "5 is looked for in the whole sheet before 6", each at the "first such primitive"
-unfoldable pub check_accesses : LinkType → List ℕ → List ℕ → ℕ → ℕ → ℕ → Checked
+unfoldable pub check_accesses : LinkType → List ℕ → List ℕ → ℕ → ℕ → ℕ → Answer Counts
 check_accesses link steps prims a b c =
     let x = first (far_offset link prims) b 0 in
     let y = first (shift_at steps prims) b 0 in
-    cond (ltb x b) (Refused 5 x) (cond (ltb y b) (Refused 6 y) (Good a b c))
+    cond (ltb x b) (Refused 5 x) (cond (ltb y b) (Refused 6 y) (Given (counts a b c)))
 
 -- refusals 3 and 4, and what is found further on where there is neither
-abbrev pub whole_parts : List ℕ → List ℕ → List ℕ → ℕ → ℕ → ℕ → Checked → Checked
+abbrev pub whole_parts : List ℕ → List ℕ → List ℕ → ℕ → ℕ → ℕ → Answer Counts → Answer Counts
 whole_parts steps prims tokens a b c further =
     let x = lowest_wrong steps prims tokens a b c in
     cond (ltb x (5 * a + 24 * b + c + 6)) (Refused 3 x)
     (cond (complete prims tokens a b) further (Refused 4 0))
 
 -- refusals 3 to 6
-unfoldable pub check_parts : LinkType → List ℕ → List ℕ → List ℕ → ℕ → ℕ → ℕ → Checked
+unfoldable pub check_parts : LinkType → List ℕ → List ℕ → List ℕ → ℕ → ℕ → ℕ → Answer Counts
 check_parts link steps prims tokens a b c = whole_parts steps prims tokens a b c (check_accesses link steps prims a b c)
 
 -- Refusal 2: "sheet length differs from what its counts ask, or a count is cut"; else its three parts
-unfoldable pub check_sections : LinkType → List ℕ → Option Counts → Checked
+unfoldable pub check_sections : LinkType → List ℕ → Option Counts → Answer Counts
 check_sections link s (Some n) =
     check_parts link (steps_part s n.steps) (prims_part s n.steps n.prims) (tokens_part s n.steps n.prims n.tokens) n.steps n.prims n.tokens
 check_sections link s None = Refused 2 0
 
 -- refusals 2 to 4, for which no link is asked
-unfoldable pub whole_sections : List ℕ → Option Counts → Checked
+unfoldable pub whole_sections : List ℕ → Option Counts → Answer Counts
 whole_sections s (Some n) =
     whole_parts (steps_part s n.steps) (prims_part s n.steps n.prims) (tokens_part s n.steps n.prims n.tokens)
-    n.steps n.prims n.tokens (Good n.steps n.prims n.tokens)
+    n.steps n.prims n.tokens (Given n)
 whole_sections s None = Refused 2 0
 
-unfoldable pub whole_of : List ℕ → Checked
+unfoldable pub whole_of : List ℕ → Answer Counts
 whole_of s = whole_sections s (sections_of s)
 
 -- Refusal 1: "a link above 2"
-unfoldable pub check_of : List ℕ → ℕ → Checked
+unfoldable pub check_of : List ℕ → ℕ → Answer Counts
 check_of s link = cond (ltb 2 link) (Refused 1 0) (check_sections (link_of link) s (sections_of s))
 
 -- Refusal 1: "a link above 2 or a mode above 1"
-unfoldable pub check_mode_of : List ℕ → ℕ → ℕ → Checked
+unfoldable pub check_mode_of : List ℕ → ℕ → ℕ → Answer Counts
 check_mode_of s link mode = cond (ltb 1 mode) (Refused 1 0) (check_of s link)

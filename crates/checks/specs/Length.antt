@@ -151,10 +151,6 @@ unfoldable pub sizes_of : LinkType → List ℕ → List ℕ → ℕ → ℕ
 sizes_of link steps prims zero = 0
 sizes_of link steps prims (suc i) = sizes_of link steps prims i + size_at link steps prims i
 
--- "one for each Or and Not", of a token
-unfoldable pub jump_size : ℕ → ℕ
-jump_size t = cond (is_jump t) 1 0
-
--- L, of b primitives and c tokens: 2 instructions before them and 4 after
+-- L, of b primitives and c tokens: 2 instructions before them and 4 after, "one for each Or and Not"
 unfoldable pub program_length : LinkType → List ℕ → List ℕ → List ℕ → ℕ → ℕ → ℕ
 program_length link steps prims tokens b c = 6 + count is_jump (take c tokens) + sizes_of link steps prims b

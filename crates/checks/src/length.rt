@@ -1,15 +1,17 @@
 // How many instructions the Rust emits: for a primitive, and for the whole program.
+#![tactic(auto, unfolding(crate::specs::Length::sides, crate::specs::Length::clip, crate::specs::Length::net6_side, crate::specs::Length::proto_size, crate::specs::Length::id_size, crate::specs::Length::cmp_size, crate::specs::Length::swap_size, crate::specs::Length::layer_size, crate::specs::Length::access_size, crate::specs::Length::count_of, crate::specs::Length::size_of, crate::specs::Length::program_length))]
+
 ghost use Rattle.std.specs.Prelude.{◌≡◌, ◌+◌, ◌*◌, ◌≤◌, take, get_or};
 ghost use Rattle.filter.specs.Record.{decode_at};
 ghost use Rattle.tree.specs.Tokens.{count, is_jump};
 ghost use Rattle.checks.specs.Check.{steps_before};
-ghost use Rattle.checks.specs.Length.{ethertype_size, sides, clip, net6_side, l4_size, prereq_size, dual_size, proto_size, id_size, label_size, cmp_size, swap_size, layer_size, access_size, count_of, size_of, jump_size, sizes_of, program_length};
+ghost use Rattle.checks.specs.Length.{ethertype_size, sides, clip, net6_side, l4_size, prereq_size, dual_size, proto_size, id_size, label_size, cmp_size, swap_size, layer_size, access_size, count_of, size_of, sizes_of, program_length};
 
 use crate::check::takes_steps;
 use crate::refusal::refusal_of;
 use filter::ast::{AccessSize, ByteAccess, CmpOp, Dir, Ipv6Net, Layer, LinkType, Primitive, Proto};
-use filter::bytes::token_at;
 use filter::record::primitive_at;
+use filter::sheet::{Counts, Sections};
 
 fn ethertype_size(link: LinkType) -> u32
     ensures { (result ≡ ethertype_size link) × (result ≤ 6) }
@@ -23,11 +25,10 @@ fn ethertype_size(link: LinkType) -> u32
 fn sides_of(dir: Dir, n: u8, between: u8) -> u32
     ensures { (result ≡ sides dir n between) × (result ≤ 765) }
 {
-    let m = n as u32;
+    let m = u32::from(n);
     match dir {
-        Dir::SrcOrDst => 2 * m + (between as u32),
-        Dir::Src => m,
-        Dir::Dst => m,
+        Dir::SrcOrDst => 2 * m + u32::from(between),
+        Dir::Src | Dir::Dst => m,
         Dir::SrcAndDst => 2 * m,
     }
 }
@@ -35,7 +36,7 @@ fn sides_of(dir: Dir, n: u8, between: u8) -> u32
 fn clipped(prefix: u8) -> u8
     ensures { (result ≡ clip prefix) × (result ≤ 128) }
 {
-    if prefix < 128 { prefix } else { 128 }
+    prefix.min(128)
 }
 
 fn net6_side(net: Ipv6Net) -> u8
@@ -79,18 +80,9 @@ fn proto_size(link: LinkType, proto: Proto) -> u32
 {
     let eth = ethertype_size(link);
     match proto {
-        Proto::Ip => eth,
-        Proto::Ip6 => eth,
-        Proto::Arp => eth,
-        Proto::Rarp => eth,
-        Proto::Tcp => dual_size(link),
-        Proto::Udp => dual_size(link),
-        Proto::Icmp => eth + 5,
-        Proto::Icmp6 => eth + 5,
-        Proto::Igmp => eth + 5,
-        Proto::Sctp => dual_size(link),
-        Proto::Num(_) => eth + 5,
-        Proto::Ip6Proto(_) => eth + 5,
+        Proto::Ip | Proto::Ip6 | Proto::Arp | Proto::Rarp => eth,
+        Proto::Tcp | Proto::Udp | Proto::Sctp => dual_size(link),
+        _ => eth + 5,
     }
 }
 
@@ -99,7 +91,7 @@ fn id_size(id: Option<u16>, n: u8) -> u32
 {
     match id {
         None => 0,
-        Some(_) => n as u32,
+        Some(_) => u32::from(n),
     }
 }
 
@@ -116,13 +108,8 @@ fn cmp_size(op: CmpOp) -> u32
     ensures { (result ≡ cmp_size op) × (result ≤ 2) }
 {
     match op {
-        CmpOp::Eq => 1,
-        CmpOp::Ne => 1,
-        CmpOp::Lt => 1,
-        CmpOp::Le => 1,
-        CmpOp::Gt => 1,
-        CmpOp::Ge => 1,
         CmpOp::BitAnd => 2,
+        _ => 1,
     }
 }
 
@@ -131,8 +118,7 @@ fn swap_size(size: AccessSize) -> u32
 {
     match size {
         AccessSize::Byte => 1,
-        AccessSize::Half => 2,
-        AccessSize::Word => 2,
+        AccessSize::Half | AccessSize::Word => 2,
     }
 }
 
@@ -140,8 +126,7 @@ fn layer_size(layer: Layer) -> u32
     ensures { (result ≡ layer_size layer) × (result ≤ 12) }
 {
     match layer {
-        Layer::Raw => 3,
-        Layer::Net => 3,
+        Layer::Raw | Layer::Net => 3,
         Layer::Trans => 12,
     }
 }
@@ -149,11 +134,7 @@ fn layer_size(layer: Layer) -> u32
 fn access_size(a: ByteAccess) -> u32
     ensures { result ≡ access_size a }
 {
-    let layer = a.layer;
-    let size = a.size;
-    let op = a.op;
-    let n = a.steps;
-    layer_size(layer) + swap_size(size) + (n as u32) + cmp_size(op)
+    layer_size(a.layer) + swap_size(a.size) + u32::from(a.steps) + cmp_size(a.op)
 }
 
 // The Rust's count of instructions for a primitive that it does not refuse.
@@ -162,103 +143,64 @@ pub fn count_of(link: LinkType, prim: Primitive) -> u32
 {
     let eth = ethertype_size(link);
     match prim {
-        Primitive::Host { addr: _, dir } => eth + sides_of(dir, 6, 0),
-        Primitive::Host6 { addr: _, dir } => eth + sides_of(dir, 48, 1),
-        Primitive::Port {
-            port: _,
-            dir,
-            proto,
-        } => prereq_size(link, proto) + sides_of(dir, 3, 0),
-        Primitive::PortRange {
-            lo: _,
-            hi: _,
-            dir,
-            proto,
-        } => prereq_size(link, proto) + sides_of(dir, 4, 1),
-        Primitive::Net { net: _, dir } => eth + sides_of(dir, 7, 0),
+        Primitive::Host { dir, .. } => eth + sides_of(dir, 6, 0),
+        Primitive::Host6 { dir, .. } => eth + sides_of(dir, 48, 1),
+        Primitive::Port { dir, proto, .. } => prereq_size(link, proto) + sides_of(dir, 3, 0),
+        Primitive::PortRange { dir, proto, .. } => prereq_size(link, proto) + sides_of(dir, 4, 1),
+        Primitive::Net { dir, .. } => eth + sides_of(dir, 7, 0),
         Primitive::Net6 { net, dir } => eth + sides_of(dir, net6_side(net), 1),
         Primitive::Proto(p) => proto_size(link, p),
-        Primitive::EtherHost { addr: _, dir } => sides_of(dir, 12, 1),
-        Primitive::EtherProto(_) => eth,
+        Primitive::EtherHost { dir, .. } => sides_of(dir, 12, 1),
+        Primitive::EtherProto(_) | Primitive::PppoeDiscovery => eth,
         Primitive::EtherMulticast => 6,
         Primitive::IpBroadcast => eth + 6,
         Primitive::IpMulticast => eth + 7,
         Primitive::Ip6Multicast => eth + 5,
         Primitive::Vlan { id } => eth + id_size(id, 7),
         Primitive::Mpls { label } => 7 + label_size(label),
-        Primitive::PppoeDiscovery => eth,
         Primitive::PppoeSession { session_id } => eth + id_size(session_id, 6),
-        Primitive::IpProtoChain(_) => eth + 5,
-        Primitive::Ip6ProtoChain(_) => eth + 5,
-        Primitive::Len { op, value: _ } => 2 + cmp_size(op),
-        Primitive::Inbound => 0,
-        Primitive::Outbound => 0,
+        Primitive::IpProtoChain(_) | Primitive::Ip6ProtoChain(_) => eth + 5,
+        Primitive::Len { op, .. } => 2 + cmp_size(op),
+        Primitive::Inbound | Primitive::Outbound => 0,
         Primitive::ByteAccess(a) => access_size(a),
     }
 }
 
-// A primitive's share of L; its steps start at step `from`.
+// A primitive's share of L; its steps start at step `from`. `steps` and `from` stay two: the part is all primitives', `from` counts on over them, and a struct would be built anew for each.
 pub fn size_of(link: LinkType, steps: &[u8], from: u32, prim: Primitive) -> u32
     ensures { result ≡ size_of link steps.now from prim }
 {
-    if refusal_of(link, steps, from, prim) == 0 {
-        count_of(link, prim)
-    } else {
-        0
+    match refusal_of(link, steps, from, prim) {
+        Ok(()) => count_of(link, prim),
+        Err(_) => 0,
     }
 }
 
-// What the first n primitives add to L.
+// What the first n primitives add to L. The part and n stay two: the promise holds for any n, also where the part has fewer or more.
 pub fn sizes_of(link: LinkType, steps: &[u8], prims: &[u8], n: u16) -> u64
     ensures { (result ≡ sizes_of link steps.now prims.now n) × (result ≤ 4294967296 * n) }
 {
-    let m = n as u32;
-    let mut sum: u64 = 0;
-    let mut from: u32 = 0;
-    let mut i: u32 = 0;
-    while i < m {
+    let mut sum = 0;
+    let mut from = 0;
+    for i in 0..u32::from(n) {
         let prim = primitive_at(prims, i);
-        sum += size_of(link, steps, from, prim) as u64;
-        from += takes_steps(prims, i) as u32;
-        i += 1;
+        sum += u64::from(size_of(link, steps, from, prim));
+        from += u32::from(takes_steps(prims, i));
     }
     sum
-}
-
-fn jump_size(t: u8) -> u64
-    ensures { (result ≡ jump_size t) × (result ≤ 1) }
-{
-    match t {
-        2 => 1,
-        3 => 1,
-        _ => 0,
-    }
 }
 
 // How many of the first n tokens are Or or Not.
 pub fn jumps_of(tokens: &[u8], n: u16) -> u64
     ensures { (result ≡ count is_jump (take n tokens.now)) × (result ≤ n) }
 {
-    let m = n as u32;
-    let mut sum: u64 = 0;
-    let mut i: u32 = 0;
-    while i < m {
-        sum += jump_size(token_at(tokens, i));
-        i += 1;
-    }
-    sum
+    let front = &tokens[..usize::from(n).min(tokens.len())];
+    front.iter().filter(|t| matches!(**t, 2 | 3)).count() as u64
 }
 
-// L, of b primitives and c tokens.
-pub fn program_length(
-    link: LinkType,
-    steps: &[u8],
-    prims: &[u8],
-    tokens: &[u8],
-    b: u16,
-    c: u16,
-) -> u64
-    ensures { result ≡ program_length link steps.now prims.now tokens.now b c }
+// L.
+pub fn program_length(link: LinkType, parts: Sections, n: Counts) -> u64
+    ensures { result ≡ program_length link parts.entry.steps.now parts.entry.prims.now parts.entry.tokens.now n.prims n.tokens }
 {
-    6 + jumps_of(tokens, c) + sizes_of(link, steps, prims, b)
+    6 + jumps_of(parts.tokens, n.tokens) + sizes_of(link, parts.steps, parts.prims, n.prims)
 }

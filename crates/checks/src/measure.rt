@@ -1,98 +1,43 @@
 // The whole sheet measured: refusals 1 to 6, or its counts and L; then 7 and 8, for the lent places.
 ghost use Rattle.std.specs.Prelude.{◌≡◌};
+ghost use Rattle.refusals.specs.Refusal.{told};
 ghost use Rattle.checks.specs.Measure.{measure_of, admit_of};
 
-use crate::check::{Checked, check_sheet};
+use crate::check::check_sheet;
 use crate::length::program_length;
-use filter::ast::link_of;
+use filter::ast::LinkType;
 use filter::sheet::Counts;
+use refusals::{Reason, Refusal};
 
-// A refusal with its place, or what the sheet asks.
-#[derive(Clone, Copy)]
-pub enum Measured {
-    Refused {
-        number: u8,
-        place: u32,
-    },
-    Length {
-        steps: u16,
-        prims: u16,
-        tokens: u16,
-        length: u64,
-    },
+// What the sheet asks: its counts, and L.
+#[derive(Clone, Copy, PartialEq, Eq)]
+pub struct Measured {
+    pub counts: Counts,
+    pub length: u64,
 }
 
 // Any sheet, any link; each section is handed on as its own part of the sheet.
-pub fn measure(sheet: &[u8], link: u8) -> Measured
-    ensures { result ≡ measure_of sheet.now link }
+pub fn measure(sheet: &[u8], link: u8) -> Result<Measured, Refusal>
+    ensures { told result ≡ measure_of sheet.now link }
 {
-    match check_sheet(sheet, link) {
-        Checked::Refused { number, place } => Measured::Refused { number, place },
-        Checked::Good {
-            steps,
-            prims,
-            tokens,
-        } => {
-            let parts = Counts {
-                steps,
-                prims,
-                tokens,
-            }
-            .sections(sheet);
-            let length = program_length(
-                link_of(link),
-                parts.steps,
-                parts.prims,
-                parts.tokens,
-                prims,
-                tokens,
-            );
-            Measured::Length {
-                steps,
-                prims,
-                tokens,
-                length,
-            }
-        }
-    }
+    let counts = check_sheet(sheet, link)?;
+    let length = program_length(LinkType::from(link), counts.sections(sheet), counts);
+    Ok(Measured { counts, length })
 }
 
-// Refusals 1 to 8: the output is given in bytes, the work in numbers of 32 bits.
-pub fn admit(sheet: &[u8], link: u8, mode: u8, output: u64, work: u64) -> Measured
-    ensures { result ≡ admit_of sheet.now link mode output work }
+// Refusals 1 to 8, of any bytes for link and mode: the output is given in bytes, the work in numbers of 32 bits.
+pub fn admit(sheet: &[u8], link: u8, mode: u8, output: u64, work: u64) -> Result<Measured, Refusal>
+    ensures { told result ≡ admit_of sheet.now link mode output work }
 {
     if 1 < mode {
-        return Measured::Refused {
-            number: 1,
-            place: 0,
-        };
+        return Err(Reason::LinkOrMode.at(0));
     }
-    match measure(sheet, link) {
-        Measured::Refused { number, place } => Measured::Refused { number, place },
-        Measured::Length {
-            steps,
-            prims,
-            tokens,
-            length,
-        } => {
-            if output < 8 * length {
-                Measured::Refused {
-                    number: 7,
-                    place: 0,
-                }
-            } else if work < length + 8 * (tokens as u64) {
-                Measured::Refused {
-                    number: 8,
-                    place: 0,
-                }
-            } else {
-                Measured::Length {
-                    steps,
-                    prims,
-                    tokens,
-                    length,
-                }
-            }
-        }
+    let asked = measure(sheet, link)?;
+    if output < 8 * asked.length {
+        return Err(Reason::ShortOutput.at(0));
     }
+    if work < asked.length + 8 * u64::from(asked.counts.tokens) {
+        return Err(Reason::ShortWork.at(0));
+    }
+    Ok(asked)
 }

@@ -6,8 +6,8 @@ use mathlib.Core.List.{List, [], ◌++◌, append-nil}
 use native.Mathlib.Omega.{arith}
 use borrow.Author.Tests.{le-leb, lt-leb, ne_eqb}
 use lib.ListN.{length, length-append}
-use Rattle.patches.specs.declared.Patches.{Patches}
-use Rattle.patches.specs.Code.{Slot, em, block}
+use Rattle.patches.specs.declared.Codegen.{Codegen}
+use Rattle.patches.specs.Code.{Slot, emission, block}
 use Rattle.filter.specs.declared.ast.LinkType.{LinkType}
 use Rattle.filter.specs.declared.ast.Ipv6Addr.{Ipv6Addr}
 use Rattle.filter.specs.declared.ast.Dir.{Dir}
@@ -15,7 +15,7 @@ use Rattle.filter.specs.declared.ast.Dir.TheVariants.{SrcOrDst, Src, Dst, SrcAnd
 use Rattle.pieces.specs.Fragments.{Fits, Leads, lead, one_of, sides}
 use Rattle.codegen.specs.Primitives.{first_side, past_sides, side_end, over, check_segment, check_net6}
 use Rattle.pieces.proofs.Leading.{lead_none, lead_length, lead_settled, first_to, second_to, then_to}
-use Rattle.pieces.proofs.Pieces.{first, second, then}
+use Rattle.pieces.proofs.Pieces.{first, second, then, mode_of, link_of}
 
 -- The inner loop, over the halves of one address.
 module _ (mode : ℕ) (link : LinkType) (addr : Ipv6Addr) (prefix at end : ℕ) where
@@ -23,12 +23,12 @@ module _ (mode : ℕ) (link : LinkType) (addr : Ipv6Addr) (prefix at end : ℕ) 
   abbrev from : ℕ → List Slot
   from i = check_net6 mode link addr prefix at (8 - i) i
 
-  pub record Inner (o₀ w₀ : List ℕ) (x₀ : Patches) (o w : List ℕ) (x : Patches) (i : ℕ) : Type 0 where
-    pub made : block (lead end x.pos (from i)) (em o w x) ≡ block (lead end x₀.pos (from 0)) (em o₀ w₀ x₀)
-    pub leads : Leads end (from i) x
+  pub record Inner (c₀ c : Codegen) (i : ℕ) : Type 0 where
+    pub made : block (lead end c.patches.pos (from i)) (emission c) ≡ block (lead end c₀.patches.pos (from 0)) (emission c₀)
+    pub leads : Leads end (from i) c.patches
     pub i_in : i ≤ 8
-    pub out_len : length o ≡ length o₀
-    pub work_len : length w ≡ length w₀
+    pub mode_is : c.mode ≡ mode
+    pub link_is : c.link ≡ link
 
   -- A half that starts below the prefix, and one that does not.
   next_half : (i : ℕ) → i < 8 → 16 * i < prefix → from i ≡ check_segment mode link addr prefix at i ++ from (i + 1)
@@ -47,31 +47,36 @@ module _ (mode : ℕ) (link : LinkType) (addr : Ipv6Addr) (prefix at end : ℕ) 
   unfolding check_net6
   all_halves i h = let n : 8 - i ≡ 0 = omega arith in rw n
 
-  module _ (o₀ w₀ : List ℕ) (x₀ : Patches) where
-    pub half_leads : (o w : List ℕ) (x : Patches) (i : ℕ) → Inner o₀ w₀ x₀ o w x i → i < 8 → 16 * i < prefix → Leads end (check_segment mode link addr prefix at i) x
-    half_leads o w x i v h k =
-        first_to end (check_segment mode link addr prefix at i) (from (i + 1)) x (subst (λ (xs : List Slot). Leads end xs x) (next_half i h k) v.leads)
+  module _ (c₀ : Codegen) where
+    pub half_leads : (c : Codegen) (i : ℕ) → Inner c₀ c i → i < 8 → 16 * i < prefix → Leads end (check_segment c.mode c.link addr prefix at i) c.patches
+    half_leads c i v h k =
+        subst (λ (m : ℕ). Leads end (check_segment m c.link addr prefix at i) c.patches) (sym v.mode_is)
+        (subst (λ (l : LinkType). Leads end (check_segment mode l addr prefix at i) c.patches) (sym v.link_is)
+        (first_to end (check_segment mode link addr prefix at i) (from (i + 1)) c.patches (subst (λ (xs : List Slot). Leads end xs c.patches) (next_half i h k) v.leads)))
 
-    pub half_next : (o w : List ℕ) (x : Patches) (i : ℕ) (o1 w1 : List ℕ) (x1 : Patches) → Inner o₀ w₀ x₀ o w x i → i < 8 → 16 * i < prefix
-        → length o1 ≡ length o → length w1 ≡ length w
-        → em o1 w1 x1 ≡ block (lead end x.pos (check_segment mode link addr prefix at i)) (em o w x) → Inner o₀ w₀ x₀ o1 w1 x1 (i + 1)
-    half_next o w x i o1 w1 x1 v h k ol wl e = record {
-      made = then_to end (check_segment mode link addr prefix at i) (from (i + 1)) o w x o1 w1 x1 (block (lead end x1.pos (from (i + 1))) (em o1 w1 x1)) e refl
-          ∙ ap (λ (xs : List Slot). block (lead end x.pos xs) (em o w x)) (sym (next_half i h k)) ∙ v.made;
-      leads = second_to end (check_segment mode link addr prefix at i) (from (i + 1)) o w x o1 w1 x1 (subst (λ (xs : List Slot). Leads end xs x) (next_half i h k) v.leads) e;
-      i_in = omega arith;
-      out_len = ol ∙ v.out_len;
-      work_len = wl ∙ v.work_len;
-    }
+    pub half_next : (c : Codegen) (i : ℕ) (c1 : Codegen) → Inner c₀ c i → i < 8 → 16 * i < prefix
+        → emission c1 ≡ block (lead end c.patches.pos (check_segment c.mode c.link addr prefix at i)) (emission c) → Inner c₀ c1 (i + 1)
+    half_next c i c1 v h k f =
+        let e : emission c1 ≡ block (lead end c.patches.pos (check_segment mode link addr prefix at i)) (emission c) =
+        f ∙ ap (λ (m : ℕ). block (lead end c.patches.pos (check_segment m c.link addr prefix at i)) (emission c)) v.mode_is
+        ∙ ap (λ (l : LinkType). block (lead end c.patches.pos (check_segment mode l addr prefix at i)) (emission c)) v.link_is in
+        record {
+          made = then_to end (check_segment mode link addr prefix at i) (from (i + 1)) c c1 (block (lead end c1.patches.pos (from (i + 1))) (emission c1)) e refl
+              ∙ ap (λ (xs : List Slot). block (lead end c.patches.pos xs) (emission c)) (sym (next_half i h k)) ∙ v.made;
+          leads = second_to end (check_segment mode link addr prefix at i) (from (i + 1)) c c1 (subst (λ (xs : List Slot). Leads end xs c.patches) (next_half i h k) v.leads) e;
+          i_in = omega arith;
+          mode_is = mode_of (lead end c.patches.pos (check_segment mode link addr prefix at i)) c c1 e ∙ v.mode_is;
+          link_is = link_of (lead end c.patches.pos (check_segment mode link addr prefix at i)) c c1 e ∙ v.link_is;
+        }
 
     -- Out of the loop: all eight halves, or the prefix's end.
     left_none : (i : ℕ) → (8 ≤ i) ⊎ (prefix ≤ 16 * i) → from i ≡ []
     left_none i h = ⊎_elim (λ (e : 8 ≤ i). all_halves i e) (λ (e : prefix ≤ 16 * i). no_half (8 - i) i e) h
 
-    pub halves_done : (o w : List ℕ) (x : Patches) (i : ℕ) → Inner o₀ w₀ x₀ o w x i → (8 ≤ i) ⊎ (prefix ≤ 16 * i)
-        → em o w x ≡ block (lead end x₀.pos (from 0)) (em o₀ w₀ x₀)
+    pub halves_done : (c : Codegen) (i : ℕ) → Inner c₀ c i → (8 ≤ i) ⊎ (prefix ≤ 16 * i)
+        → emission c ≡ block (lead end c₀.patches.pos (from 0)) (emission c₀)
     unfolding block lead
-    halves_done o w x i v h = sym (ap (λ (xs : List Slot). block (lead end x.pos xs) (em o w x)) (left_none i h)) ∙ v.made
+    halves_done c i v h = sym (ap (λ (xs : List Slot). block (lead end c.patches.pos xs) (emission c)) (left_none i h)) ∙ v.made
 
 -- The outer loop, over the chosen addresses: what is left from this one on, where `part` gives the code of each.
 pub left : Dir → (ℕ → List Slot) → ℕ → List Slot
@@ -93,13 +98,13 @@ unfolding one_of over
 closed_side p xs ys = rw (lead_settled p 1 xs (p + length xs + 1) (omega arith) refl, ne_eqb (p + length xs + 1) 0 (λ e. omega (arith, e)))
 
 module _ (dir : Dir) (part : ℕ → List Slot) where
-  pub record Outer (o₀ w₀ : List ℕ) (x₀ : Patches) (o w : List ℕ) (x : Patches) (side : ℕ) : Type 0 where
-    pub made : block (left dir part side) (em o w x) ≡ block (sides dir (part 0) (part 1)) (em o₀ w₀ x₀)
-    pub fit : Fits (left dir part side) x
+  pub record Outer (c₀ c : Codegen) (side : ℕ) : Type 0 where
+    pub made : block (left dir part side) (emission c) ≡ block (sides dir (part 0) (part 1)) (emission c₀)
+    pub fit : Fits (left dir part side) c.patches
     pub low : first_side dir ≤ side
     pub high : side ≤ past_sides dir
-    pub out_len : length o ≡ length o₀
-    pub work_len : length w ≡ length w₀
+    pub mode_is : c.mode ≡ c₀.mode
+    pub link_is : c.link ≡ c₀.link
 
 -- The side at hand, its JA and the rest.
 turn : (dir : Dir) (part : ℕ → List Slot) (side p n : ℕ) → length (part 0) ≡ n → first_side dir ≤ side → side < past_sides dir
@@ -140,12 +145,12 @@ side_low Src part side p n e = omega arith
 side_low Dst part side p n e = omega arith
 side_low SrcAndDst part side p n e = omega arith
 
-pub start : (dir : Dir) (part : ℕ → List Slot) (o w : List ℕ) (x : Patches) → Fits (sides dir (part 0) (part 1)) x → Outer dir part o w x o w x (first_side dir)
+pub start : (dir : Dir) (part : ℕ → List Slot) (c : Codegen) → Fits (sides dir (part 0) (part 1)) c.patches → Outer dir part c c (first_side dir)
 unfolding left sides first_side past_sides
-start SrcOrDst part o w x f = record { made = refl; fit = f; low = omega arith; high = omega arith; out_len = refl; work_len = refl }
-start Src part o w x f = record { made = refl; fit = f; low = omega arith; high = omega arith; out_len = refl; work_len = refl }
-start Dst part o w x f = record { made = refl; fit = f; low = omega arith; high = omega arith; out_len = refl; work_len = refl }
-start SrcAndDst part o w x f = record { made = refl; fit = f; low = omega arith; high = omega arith; out_len = refl; work_len = refl }
+start SrcOrDst part c f = record { made = refl; fit = f; low = omega arith; high = omega arith; mode_is = refl; link_is = refl }
+start Src part c f = record { made = refl; fit = f; low = omega arith; high = omega arith; mode_is = refl; link_is = refl }
+start Dst part c f = record { made = refl; fit = f; low = omega arith; high = omega arith; mode_is = refl; link_is = refl }
+start SrcAndDst part c f = record { made = refl; fit = f; low = omega arith; high = omega arith; mode_is = refl; link_is = refl }
 
 none_left : (dir : Dir) (part : ℕ → List Slot) (side : ℕ) → past_sides dir ≤ side → left dir part side ≡ []
 unfolding left past_sides
@@ -162,55 +167,55 @@ none_left SrcAndDst part zero h = absurd (omega arith)
 none_left SrcAndDst part (suc zero) h = absurd (omega arith)
 none_left SrcAndDst part (suc (suc side)) h = refl
 
-module _ (dir : Dir) (part : ℕ → List Slot) (n : ℕ) (size : length (part 0) ≡ n) (o₀ w₀ : List ℕ) (x₀ : Patches) where
+module _ (dir : Dir) (part : ℕ → List Slot) (n : ℕ) (size : length (part 0) ≡ n) (c₀ : Codegen) where
   -- Out of the loop.
-  pub sides_done : (o w : List ℕ) (x : Patches) (side : ℕ) → Outer dir part o₀ w₀ x₀ o w x side → past_sides dir ≤ side
-      → em o w x ≡ block (sides dir (part 0) (part 1)) (em o₀ w₀ x₀)
+  pub sides_done : (c : Codegen) (side : ℕ) → Outer dir part c₀ c side → past_sides dir ≤ side
+      → emission c ≡ block (sides dir (part 0) (part 1)) (emission c₀)
   unfolding block
-  sides_done o w x side v h = sym (ap (λ (xs : List Slot). block xs (em o w x)) (none_left dir part side h)) ∙ v.made
+  sides_done c side v h = sym (ap (λ (xs : List Slot). block xs (emission c)) (none_left dir part side h)) ∙ v.made
 
-  module _ (o w : List ℕ) (x : Patches) (side : ℕ) (v : Outer dir part o₀ w₀ x₀ o w x side) (h : side < past_sides dir) where
+  module _ (c : Codegen) (side : ℕ) (v : Outer dir part c₀ c side) (h : side < past_sides dir) where
     abbrev to : ℕ
-    to = side_end dir side x.pos n
+    to = side_end dir side c.patches.pos n
 
-    whole : Fits (lead to x.pos (part side) ++ (over to ++ left dir part (suc side))) x
-    whole = subst (λ (xs : List Slot). Fits xs x) (turn dir part side x.pos n size v.low h) v.fit
+    whole : Fits (lead to c.patches.pos (part side) ++ (over to ++ left dir part (suc side))) c.patches
+    whole = subst (λ (xs : List Slot). Fits xs c.patches) (turn dir part side c.patches.pos n size v.low h) v.fit
 
     pub end_fits : to < 2 ^ 32
-    end_fits = omega (arith, simp length-append at whole.room, side_low dir part side x.pos n size)
+    end_fits = omega (arith, simp length-append at whole.room, side_low dir part side c.patches.pos n size)
 
     module _ (end : ℕ) (ends : end ≡ to) (code : List Slot) (is : code ≡ part side) where
-      pub side_leads : n ≤ 49 → Leads end code x
+      pub side_leads : n ≤ 49 → Leads end code c.patches
       side_leads k = record {
-        room = omega (arith, simp length-append at whole.room, lead_length to x.pos (part side), ap length is);
-        near = omega (arith, ends, side_near dir side x.pos n);
+        room = omega (arith, simp length-append at whole.room, lead_length to c.patches.pos (part side), ap length is);
+        near = omega (arith, ends, side_near dir side c.patches.pos n);
       }
 
-      module _ (o1 w1 : List ℕ) (x1 : Patches) (e : em o1 w1 x1 ≡ block (lead end x.pos code) (em o w x)) where
-        written : em o1 w1 x1 ≡ block (lead to x.pos (part side)) (em o w x)
+      module _ (c1 : Codegen) (e : emission c1 ≡ block (lead end c.patches.pos code) (emission c)) where
+        written : emission c1 ≡ block (lead to c.patches.pos (part side)) (emission c)
         written = rw (ends, is) at e
 
-        rest : Fits (over to ++ left dir part (suc side)) x1
-        rest = second (lead to x.pos (part side)) (over to ++ left dir part (suc side)) o w x o1 w1 x1 whole written
+        rest : Fits (over to ++ left dir part (suc side)) c1.patches
+        rest = second (lead to c.patches.pos (part side)) (over to ++ left dir part (suc side)) c c1 whole written
 
-        pub over_fits : Fits (over end) x1
-        over_fits = rw ends (first (over to) (left dir part (suc side)) x1 rest)
+        pub over_fits : Fits (over end) c1.patches
+        over_fits = rw ends (first (over to) (left dir part (suc side)) c1.patches rest)
 
-        pub side_next : (o2 w2 : List ℕ) (x2 : Patches) → em o2 w2 x2 ≡ block (over end) (em o1 w1 x1)
-            → length o2 ≡ length o → length w2 ≡ length w → Outer dir part o₀ w₀ x₀ o2 w2 x2 (side + 1)
-        side_next o2 w2 x2 k ol wl =
-            let k2 : em o2 w2 x2 ≡ block (over to) (em o1 w1 x1) = rw ends at k in
+        pub side_next : (c2 : Codegen) → emission c2 ≡ block (over end) (emission c1)
+            → Outer dir part c₀ c2 (side + 1)
+        side_next c2 k =
+            let k2 : emission c2 ≡ block (over to) (emission c1) = rw ends at k in
             let s : suc side ≡ side + 1 = omega arith in
-            let f : Fits (left dir part (suc side)) x2 = second (over to) (left dir part (suc side)) o1 w1 x1 o2 w2 x2 rest k2 in
-            let m : block (left dir part (suc side)) (em o2 w2 x2) ≡ block (left dir part side) (em o w x) =
-            then (lead to x.pos (part side)) (over to ++ left dir part (suc side)) (em o w x) (em o1 w1 x1) (block (left dir part (suc side)) (em o2 w2 x2)) written
-            (then (over to) (left dir part (suc side)) (em o1 w1 x1) (em o2 w2 x2) (block (left dir part (suc side)) (em o2 w2 x2)) k2 refl)
-            ∙ ap (λ (xs : List Slot). block xs (em o w x)) (sym (turn dir part side x.pos n size v.low h)) in
+            let f : Fits (left dir part (suc side)) c2.patches = second (over to) (left dir part (suc side)) c1 c2 rest k2 in
+            let m : block (left dir part (suc side)) (emission c2) ≡ block (left dir part side) (emission c) =
+            then (lead to c.patches.pos (part side)) (over to ++ left dir part (suc side)) (emission c) (emission c1) (block (left dir part (suc side)) (emission c2)) written
+            (then (over to) (left dir part (suc side)) (emission c1) (emission c2) (block (left dir part (suc side)) (emission c2)) k2 refl)
+            ∙ ap (λ (xs : List Slot). block xs (emission c)) (sym (turn dir part side c.patches.pos n size v.low h)) in
             record {
-              made = ap (λ (j : ℕ). block (left dir part j) (em o2 w2 x2)) (sym s) ∙ m ∙ v.made;
-              fit = subst (λ (j : ℕ). Fits (left dir part j) x2) s f;
+              made = ap (λ (j : ℕ). block (left dir part j) (emission c2)) (sym s) ∙ m ∙ v.made;
+              fit = subst (λ (j : ℕ). Fits (left dir part j) c2.patches) s f;
               low = omega (arith, v.low);
               high = omega arith;
-              out_len = ol ∙ v.out_len;
-              work_len = wl ∙ v.work_len;
+              mode_is = mode_of (over to) c1 c2 k2 ∙ mode_of (lead to c.patches.pos (part side)) c c1 written ∙ v.mode_is;
+              link_is = link_of (over to) c1 c2 k2 ∙ link_of (lead to c.patches.pos (part side)) c c1 written ∙ v.link_is;
             }

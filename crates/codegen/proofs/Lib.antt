@@ -1,3 +1,4 @@
 pub mod Sizes
 pub mod Halves
 pub mod Unique
+pub mod Laws

@@ -1,5 +1,5 @@
 -- The code of each primitive, function by function of ebpf_codegen.rs: host, net, port, MAC, tags, length, byte access.
-use Rattle.std.specs.Prelude.{ℕ, zero, suc, ◌+◌, ◌-◌, ◌*◌, ◌/◌, ◌%◌, ◌^◌, List, [], ◌∷◌, ◌++◌, cond, eqb, leb, ltb, Option, Some, None}
+use Rattle.std.specs.Prelude.{ℕ, zero, suc, ◌+◌, ◌-◌, ◌*◌, ◌/◌, ◌%◌, ◌^◌, List, [], ◌∷◌, ◌++◌, cond, eqb, leb, Option, Some, None}
 use Rattle.std.specs.Int.Bits.{bit_and}
 use Rattle.ebpf.specs.Opcode.{ADD, SUB, AND, RSH, MOV, JEQ, JNE, JGT, JLT, JSET}
 use Rattle.ebpf.specs.Insn.{alu64_reg, alu64_imm, alu32_imm, jump_always}
@@ -8,7 +8,7 @@ use Rattle.patches.specs.Code.Slot.{fixed, success, failure}
 use Rattle.pieces.specs.Fragments.{past, sides, guard, load, end_of, emit_load, emit_steps, transport, fails, skips, succeeds, check, emit_cmp}
 use Rattle.pieces.specs.Fragments.{emit_ethertype, emit_ip4_l4, emit_ip6_l4, emit_dual_l4}
 use Rattle.filter.specs.Prefix.{prefix_mask}
-use Rattle.filter.specs.Ast.{ether_proto_offset, net_offset}
+use Rattle.filter.specs.Ast.{ether_proto_offset, net_offset, segment_of}
 use Rattle.filter.specs.declared.ast.LinkType.{LinkType}
 use Rattle.filter.specs.declared.ast.Dir.{Dir}
 use Rattle.filter.specs.declared.ast.Dir.TheVariants.{SrcOrDst, Src, Dst, SrcAndDst}
@@ -25,10 +25,6 @@ use Rattle.filter.specs.declared.ast.CmpRhs.TheVariants.{Const, Load}
 use Rattle.filter.specs.declared.ast.ByteAccess as access
 use Rattle.filter.specs.declared.ast.Primitive.{Primitive}
 use Rattle.filter.specs.declared.ast.Primitive.TheVariants.{Host, Host6, Port, PortRange, Net, Net6, Proto, EtherHost, EtherProto, EtherMulticast, IpBroadcast, IpMulticast, Ip6Multicast, Vlan, Mpls, PppoeDiscovery, PppoeSession, IpProtoChain, Ip6ProtoChain, Len, Inbound, Outbound, ByteAccess}
-
--- `addr.segments()`: half i of an address, from 0 to 7.
-unfoldable pub segment : Ipv6Addr → ℕ → ℕ
-segment addr i = cond (ltb i 4) (addr.hi / 2 ^ (16 * (3 - i)) % 65536) (addr.lo / 2 ^ (16 * (7 - i)) % 65536)
 
 -- Source and destination change places: the Rust's MAC checks begin with the destination.
 unfoldable pub mirrored : Dir → Dir
@@ -61,6 +57,11 @@ side_end SrcAndDst side p n = 0
 unfoldable pub over : ℕ → List Slot
 over end = cond (eqb end 0) [] (success (jump_always 0) ∷ [])
 
+-- The word under a mask, if there is one.
+abbrev pub masked : Option ℕ → List Slot
+masked None = []
+masked (Some mask) = fixed (alu32_imm AND 4 mask) ∷ []
+
 module _ (mode : ℕ) (link : LinkType) where
   -- `check_addr4` and its like: one word under a mask (all ones: none), compared with k.
   module _ (masked : List Slot) (k : ℕ) where
@@ -87,8 +88,8 @@ module _ (mode : ℕ) (link : LinkType) where
   unfoldable pub check_segment : Ipv6Addr → ℕ → ℕ → ℕ → List Slot
   check_segment addr prefix at i =
       emit_load Half (at + 2 * i)
-      ++ cond (leb (16 * i + 16) prefix) (fails mode JNE (segment addr i))
-      (fixed (alu32_imm AND 4 (prefix_mask (prefix - 16 * i))) ∷ fails mode JNE (bit_and (segment addr i) (prefix_mask (prefix - 16 * i))))
+      ++ cond (leb (16 * i + 16) prefix) (fails mode JNE (segment_of addr i))
+      (fixed (alu32_imm AND 4 (prefix_mask (prefix - 16 * i))) ∷ fails mode JNE (bit_and (segment_of addr i) (prefix_mask (prefix - 16 * i))))
 
   -- "The walk over an IPv6 address stops at the first segment that starts at or past the prefix": n halves from half i on.
   unfoldable pub check_net6 : Ipv6Addr → ℕ → ℕ → ℕ → ℕ → List Slot

@@ -1,127 +1,66 @@
 // Length and byte access.
+#![tactic(auto, using(crate::proofs::Laws::accesses))]
+
 ghost use Rattle.std.specs.Prelude.{◌≡◌};
-ghost use Rattle.patches.specs.Code.{em, block};
+ghost use Rattle.patches.specs.Code.{emission, block};
 ghost use Rattle.filter.specs.declared.ast.Layer.TheVariants.{Trans};
 ghost use Rattle.pieces.specs.Fragments.{Fits};
 ghost use Rattle.codegen.specs.Primitives.{emit_len, steps_and_cmp, access_at_code, emit_byte_access};
 
 use ebpf::insn::{Insn, R2, R3, R4, R6};
-use filter::ast::{ByteAccess, CmpOp, CmpRhs, Layer, LinkType};
-use patches::{Patches, push};
+use filter::ast::{ByteAccess, CmpOp, CmpRhs, Layer};
+use patches::Codegen;
 use pieces::guarded::{emit_load, emit_load_from, push_guard};
 use pieces::load::{end_of, push_load};
 use pieces::steps::{emit_cmp, emit_steps, emit_transport};
 
 // `emit_len`: the frame's length is R3 - R2.
-pub(crate) fn emit_len(
-    out: &mut [u8],
-    work: &mut [u32],
-    st: Patches,
-    mode: u8,
-    link: LinkType,
-    op: CmpOp,
-    value: u32,
-) -> Patches
-    requires { Fits (emit_len mode link op value) st }
-    ensures { em out.new work.new result ≡ block (emit_len mode link op value) (em out.old work.old st) }
+pub(crate) fn emit_len(code: &mut Codegen, op: CmpOp, value: u32)
+    requires { Fits (emit_len code.old.mode code.old.link op value) code.old.patches }
+    ensures { emission code.new ≡ block (emit_len code.old.mode code.old.link op value) (emission code.old) }
 {
-    let a = push(out, work, st, Insn::mov64_reg(R4, R3));
-    let b = push(out, work, a, Insn::sub64_reg(R4, R2));
-    emit_cmp(out, work, b, mode, op, value)
+    code.push(Insn::mov64_reg(R4, R3));
+    code.push(Insn::sub64_reg(R4, R2));
+    emit_cmp(code, op, value);
 }
 
-// The steps, then the comparison.
-fn emit_steps_and_cmp(
-    out: &mut [u8],
-    work: &mut [u32],
-    st: Patches,
-    mode: u8,
-    link: LinkType,
-    steps: &[u8],
-    from: u32,
-    x: ByteAccess,
-    value: u32,
-) -> Patches
-    requires { Fits (steps_and_cmp mode link steps.now from x value) st }
-    ensures { em out.new work.new result ≡ block (steps_and_cmp mode link steps.now from x value) (em out.old work.old st) }
+// The steps, then the comparison. `steps` and `from` stay two: the part is all primitives', `from` counts on over them, and a struct would be built anew for each.
+fn emit_steps_and_cmp(code: &mut Codegen, steps: &[u8], from: u32, x: ByteAccess, value: u32)
+    requires { Fits (steps_and_cmp code.old.mode code.old.link steps.now from x value) code.old.patches }
+    ensures { emission code.new ≡ block (steps_and_cmp code.old.mode code.old.link steps.now from x value) (emission code.old) }
 {
-    let op = x.op;
-    let a = emit_steps(out, work, st, steps, x.steps, from);
-    emit_cmp(out, work, a, mode, op, value)
+    emit_steps(code, steps, x.steps, from);
+    emit_cmp(code, x.op, value);
 }
 
 // `emit_trans_byte_access`.
-fn emit_trans_byte_access(
-    out: &mut [u8],
-    work: &mut [u32],
-    st: Patches,
-    mode: u8,
-    link: LinkType,
-    steps: &[u8],
-    from: u32,
-    x: ByteAccess,
-    value: u32,
-) -> Patches
-    requires { Fits (access_at_code mode link steps.now from Trans x value) st }
-    ensures { em out.new work.new result ≡ block (access_at_code mode link steps.now from Trans x value) (em out.old work.old st) }
+fn emit_trans_byte_access(code: &mut Codegen, steps: &[u8], from: u32, x: ByteAccess, value: u32)
+    requires { Fits (access_at_code code.old.mode code.old.link steps.now from Trans x value) code.old.patches }
+    ensures { emission code.new ≡ block (access_at_code code.old.mode code.old.link steps.now from Trans x value) (emission code.old) }
 {
-    let size = x.size;
-    let offset = x.offset;
-    let a = emit_transport(out, work, st, link.net_offset());
-    let b = push_guard(out, work, a, R6, end_of(size, offset));
-    let c = push_load(out, work, b, size, R6, offset);
-    emit_steps_and_cmp(out, work, c, mode, link, steps, from, x, value)
+    emit_transport(code, code.link.net_offset());
+    push_guard(code, R6, end_of(x.size, x.offset));
+    push_load(code, x.size, R6, x.offset);
+    emit_steps_and_cmp(code, steps, from, x, value);
 }
 
-// The load at the layer's place, then the steps and the comparison.
-fn emit_access_at(
-    out: &mut [u8],
-    work: &mut [u32],
-    st: Patches,
-    mode: u8,
-    link: LinkType,
-    steps: &[u8],
-    from: u32,
-    layer: Layer,
-    x: ByteAccess,
-    value: u32,
-) -> Patches
-    requires { Fits (access_at_code mode link steps.now from layer x value) st }
-    ensures { em out.new work.new result ≡ block (access_at_code mode link steps.now from layer x value) (em out.old work.old st) }
+// `emit_byte_access`: the load at the layer's place, then the steps and the comparison; one with a second load is refused before.
+pub(crate) fn emit_byte_access(code: &mut Codegen, steps: &[u8], from: u32, x: ByteAccess)
+    requires { Fits (emit_byte_access code.old.mode code.old.link steps.now from x) code.old.patches }
+    ensures { emission code.new ≡ block (emit_byte_access code.old.mode code.old.link steps.now from x) (emission code.old) }
 {
-    let size = x.size;
-    let offset = x.offset;
-    match layer {
+    let CmpRhs::Const(value) = x.rhs else {
+        return;
+    };
+    match x.layer {
         Layer::Raw => {
-            let a = emit_load(out, work, st, size, offset);
-            emit_steps_and_cmp(out, work, a, mode, link, steps, from, x, value)
+            emit_load(code, x.size, x.offset);
+            emit_steps_and_cmp(code, steps, from, x, value);
         }
         Layer::Net => {
-            let a = emit_load_from(out, work, st, size, link.net_offset(), offset);
-            emit_steps_and_cmp(out, work, a, mode, link, steps, from, x, value)
+            emit_load_from(code, x.size, code.link.net_offset(), x.offset);
+            emit_steps_and_cmp(code, steps, from, x, value);
         }
-        Layer::Trans => emit_trans_byte_access(out, work, st, mode, link, steps, from, x, value),
-    }
-}
-
-// `emit_byte_access`; a comparison with a second load is refused before.
-pub(crate) fn emit_byte_access(
-    out: &mut [u8],
-    work: &mut [u32],
-    st: Patches,
-    mode: u8,
-    link: LinkType,
-    steps: &[u8],
-    from: u32,
-    x: ByteAccess,
-) -> Patches
-    requires { Fits (emit_byte_access mode link steps.now from x) st }
-    ensures { em out.new work.new result ≡ block (emit_byte_access mode link steps.now from x) (em out.old work.old st) }
-{
-    let layer = x.layer;
-    let rhs = x.rhs;
-    match rhs {
-        CmpRhs::Const(k) => emit_access_at(out, work, st, mode, link, steps, from, layer, x, k),
-        CmpRhs::Load(_) => st,
+        Layer::Trans => emit_trans_byte_access(code, steps, from, x, value),
     }
 }

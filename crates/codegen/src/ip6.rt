@@ -1,68 +1,44 @@
 // IPv6 hosts and nets.
 ghost use Rattle.std.specs.Prelude.{◌≡◌, ℕ, ◌+◌, ◌*◌, ◌^◌, ◌<◌, ◌≤◌, length};
-ghost use Rattle.patches.specs.Code.{em, block};
+ghost use Rattle.patches.specs.Code.{emission, block};
 ghost use Rattle.filter.specs.Ast.{net_offset};
 ghost use Rattle.checks.specs.Length.{clip};
 ghost use Rattle.pieces.specs.Fragments.{Fits, Leads, lead, sides};
-ghost use Rattle.codegen.specs.Primitives.{segment, first_side, past_sides, side_end, over, check_segment, check_net6, emit_net6};
+ghost use Rattle.codegen.specs.Primitives.{first_side, past_sides, side_end, over, check_segment, check_net6, emit_net6};
 
 use ebpf::insn::{Insn, R4};
 use filter::ast::{AccessSize, Dir, Ipv6Addr, LinkType};
 use filter::prefix::prefix_mask;
-use patches::{Patches, push, push_success};
+use patches::Codegen;
 use pieces::ether::{emit_ethertype, net_plus};
 use pieces::guarded::{emit_load_to, push_failing};
 use pieces::load::jne;
 
-// `addr.segments()[i]`.
-fn segment(addr: Ipv6Addr, i: u32) -> u32
-    requires { i < 8 }
-    ensures { result ≡ segment addr i }
-{
-    if i < 4 {
-        ((addr.hi >> (16 * (3 - i))) % 65536) as u32
-    } else {
-        ((addr.lo >> (16 * (7 - i))) % 65536) as u32
-    }
-}
-
 // `check_net6`, of one half.
-fn check_segment(
-    out: &mut [u8],
-    work: &mut [u32],
-    st: Patches,
-    mode: u8,
-    link: LinkType,
-    addr: Ipv6Addr,
-    prefix: u8,
-    at: u32,
-    i: u32,
-    end: u32,
-) -> Patches
-    requires leads { Leads end (check_segment mode link addr prefix at i) st }
+fn check_segment(code: &mut Codegen, addr: Ipv6Addr, prefix: u8, at: u32, i: u32, end: u32)
+    requires leads { Leads end (check_segment code.old.mode code.old.link addr prefix at i) code.old.patches }
     requires i_bound { (i < 8) × (16 * i < prefix) × (at ≤ 65535) }
-    ensures { em out.new work.new result ≡ block (lead end st.pos (check_segment mode link addr prefix at i)) (em out.old work.old st) }
+    ensures { emission code.new ≡ block (lead end code.old.patches.pos (check_segment code.old.mode code.old.link addr prefix at i)) (emission code.old) }
 {
     let prefix_len = prefix as u32;
     let start_bit = 16 * i;
-    let end_bit = start_bit + 16;
-    let seg = segment(addr, i);
-    let a = emit_load_to(out, work, st, AccessSize::Half, at + 2 * i, end);
-    if end_bit <= prefix_len {
-        push_failing(out, work, a, jne(mode, seg), end)
+    let seg = u32::from(addr.segment(i));
+    emit_load_to(code, AccessSize::Half, at + 2 * i, end);
+    if start_bit + 16 <= prefix_len {
+        push_failing(code, jne(code.mode, seg), end);
     } else {
         let mask = prefix_mask(prefix_len - start_bit);
-        let expected = seg & mask;
-        let b = push(out, work, a, Insn::and32_imm(R4, mask));
-        push_failing(out, work, b, jne(mode, expected), end)
+        code.push(Insn::and32_imm(R4, mask));
+        push_failing(code, jne(code.mode, seg & mask), end);
     }
 }
 
 // A prefix above 128 acts as 128.
+#[tactic(auto, unfolding(checks::specs::Length::clip))]
 fn clipped(prefix: u8) -> u32
     ensures { (result ≡ clip prefix) × (result ≤ 128) }
 {
-    if prefix < 128 { prefix as u32 } else { 128 }
+    prefix.min(128) as u32
 }
 
 // How many instructions the check of one address takes.
@@ -76,105 +52,73 @@ fn side_length(prefix: u8) -> u32
 }
 
 // The chosen addresses, of which the source is 0 and the destination 1: the first one.
+#[tactic(auto, unfolding(crate::specs::Primitives::first_side))]
 fn first_side(dir: Dir) -> u8
     ensures { result ≡ first_side dir }
 {
     match dir {
-        Dir::SrcOrDst => 0,
-        Dir::Src => 0,
         Dir::Dst => 1,
-        Dir::SrcAndDst => 0,
+        Dir::SrcOrDst | Dir::Src | Dir::SrcAndDst => 0,
     }
 }
 
 // The number behind the last chosen address.
+#[tactic(auto, unfolding(crate::specs::Primitives::past_sides))]
 fn past_sides(dir: Dir) -> u8
     ensures { (result ≡ past_sides dir) × (result ≤ 2) }
 {
     match dir {
-        Dir::SrcOrDst => 2,
         Dir::Src => 1,
-        Dir::Dst => 2,
-        Dir::SrcAndDst => 2,
+        Dir::SrcOrDst | Dir::Dst | Dir::SrcAndDst => 2,
     }
 }
 
 // Where the failures of a side lead: the source's behind its JA if the destination may match instead.
+#[tactic(auto, unfolding(crate::specs::Primitives::side_end))]
 fn side_end(dir: Dir, side: u8, p: u32, n: u32) -> u32
     requires { side_end dir side p n < 2 ^ 32 }
     ensures { result ≡ side_end dir side p n }
 {
     match dir {
-        Dir::SrcOrDst => { if side == 0 { p + n + 1 } else { 0 } }
-        Dir::Src => 0,
-        Dir::Dst => 0,
-        Dir::SrcAndDst => 0,
+        Dir::SrcOrDst if side == 0 => p + n + 1,
+        Dir::SrcOrDst | Dir::Src | Dir::Dst | Dir::SrcAndDst => 0,
     }
 }
 
 // The JA behind a side whose failures lead past it.
-fn push_over(out: &mut [u8], work: &mut [u32], st: Patches, end: u32) -> Patches
-    requires { Fits (over end) st }
-    ensures { em out.new work.new result ≡ block (over end) (em out.old work.old st) }
+fn push_over(code: &mut Codegen, end: u32)
+    requires { Fits (over end) code.old.patches }
+    ensures { emission code.new ≡ block (over end) (emission code.old) }
 {
-    if end == 0 {
-        st
-    } else {
-        push_success(out, work, st, Insn::ja(0))
+    if end != 0 {
+        code.push_success(Insn::ja(0));
     }
 }
 
 // The checks of the chosen addresses, the source first.
-fn check_sides(
-    out: &mut [u8],
-    work: &mut [u32],
-    st: Patches,
-    mode: u8,
-    link: LinkType,
-    addr: Ipv6Addr,
-    prefix: u8,
-    dir: Dir,
-) -> Patches
-    requires { Fits (sides dir (check_net6 mode link addr prefix (net_offset link + 8) 8 0) (check_net6 mode link addr prefix (net_offset link + 24) 8 0)) st }
-    ensures { em out.new work.new result ≡ block (sides dir (check_net6 mode link addr prefix (net_offset link + 8) 8 0) (check_net6 mode link addr prefix (net_offset link + 24) 8 0)) (em out.old work.old st) }
+fn check_sides(code: &mut Codegen, addr: Ipv6Addr, prefix: u8, dir: Dir)
+    requires { Fits (sides dir (check_net6 code.old.mode code.old.link addr prefix (net_offset code.old.link + 8) 8 0) (check_net6 code.old.mode code.old.link addr prefix (net_offset code.old.link + 24) 8 0)) code.old.patches }
+    ensures { emission code.new ≡ block (sides dir (check_net6 code.old.mode code.old.link addr prefix (net_offset code.old.link + 8) 8 0) (check_net6 code.old.mode code.old.link addr prefix (net_offset code.old.link + 24) 8 0)) (emission code.old) }
 {
-    let prefix_len = prefix as u32;
     let n = side_length(prefix);
-    let last = past_sides(dir);
-    let mut side = first_side(dir);
-    let mut x = st;
-    while side < last {
-        let at = net_plus(link, 8 + 16 * side);
-        let end = side_end(dir, side, x.pos, n);
-        let mut i = 0;
-        while i < 8 {
-            let start_bit = 16 * i;
-            if prefix_len <= start_bit {
+    for side in first_side(dir)..past_sides(dir) {
+        let at = net_plus(code.link, 8 + 16 * side);
+        let end = side_end(dir, side, code.patches.pos, n);
+        for i in 0..8 {
+            if prefix as u32 <= 16 * i {
                 break;
             }
-            x = check_segment(out, work, x, mode, link, addr, prefix, at, i, end);
-            i += 1;
+            check_segment(code, addr, prefix, at, i, end);
         }
-        x = push_over(out, work, x, end);
-        side += 1;
+        push_over(code, end);
     }
-    x
 }
 
 // `emit_net6`; `emit_host6` is the same with the whole address.
-pub(crate) fn emit_net6(
-    out: &mut [u8],
-    work: &mut [u32],
-    st: Patches,
-    mode: u8,
-    link: LinkType,
-    addr: Ipv6Addr,
-    prefix: u8,
-    dir: Dir,
-) -> Patches
-    requires { Fits (emit_net6 mode link addr prefix dir) st }
-    ensures { em out.new work.new result ≡ block (emit_net6 mode link addr prefix dir) (em out.old work.old st) }
+pub(crate) fn emit_net6(code: &mut Codegen, addr: Ipv6Addr, prefix: u8, dir: Dir)
+    requires { Fits (emit_net6 code.old.mode code.old.link addr prefix dir) code.old.patches }
+    ensures { emission code.new ≡ block (emit_net6 code.old.mode code.old.link addr prefix dir) (emission code.old) }
 {
-    let a = emit_ethertype(out, work, st, mode, link, 0x86dd);
-    check_sides(out, work, a, mode, link, addr, prefix, dir)
+    emit_ethertype(code, 0x86dd);
+    check_sides(code, addr, prefix, dir);
 }

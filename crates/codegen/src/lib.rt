@@ -1,5 +1,5 @@
 // Port of ebpf_codegen.rs: the code of each primitive.
-#![tactic(auto)]
+#![tactic(auto, using(crate::proofs::Laws::laws))]
 
 mod access;
 mod address;

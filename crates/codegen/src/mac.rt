@@ -1,59 +1,44 @@
 // MAC addresses: a number of 48 bits.
+#![tactic(auto, using(crate::proofs::Laws::leading))]
+
 ghost use Rattle.std.specs.Prelude.{◌≡◌, ◌≤◌};
-ghost use Rattle.patches.specs.Code.{em, block};
+ghost use Rattle.patches.specs.Code.{emission, block};
 ghost use Rattle.pieces.specs.Fragments.{Fits, Leads, lead};
 ghost use Rattle.codegen.specs.Primitives.{check_mac, emit_ether_host};
 
 use ebpf::insn::Insn;
-use filter::ast::{AccessSize, Dir, LinkType};
-use patches::{Patches, push_success};
+use filter::ast::{AccessSize, Dir};
+use patches::Codegen;
 use pieces::guarded::check_to;
 
 // The first four bytes of an address, then the last two.
-fn check_mac(
-    out: &mut [u8],
-    work: &mut [u32],
-    st: Patches,
-    mode: u8,
-    link: LinkType,
-    off: u32,
-    addr: u64,
-    end: u32,
-) -> Patches
-    requires leads { Leads end (check_mac mode link off addr) st }
+fn check_mac(code: &mut Codegen, off: u32, addr: u64, end: u32)
+    requires leads { Leads end (check_mac code.old.mode code.old.link off addr) code.old.patches }
     requires off_bound { off ≤ 6 }
-    ensures { em out.new work.new result ≡ block (lead end st.pos (check_mac mode link off addr)) (em out.old work.old st) }
+    ensures { emission code.new ≡ block (lead end code.old.patches.pos (check_mac code.old.mode code.old.link off addr)) (emission code.old) }
 {
-    let word = (addr / 65536 % 4294967296) as u32;
-    let half = (addr % 65536) as u32;
-    let a = check_to(out, work, st, mode, AccessSize::Word, off, word, end);
-    check_to(out, work, a, mode, AccessSize::Half, off + 4, half, end)
+    let word = (addr >> 16 & 0xffff_ffff) as u32;
+    let half = (addr & 0xffff) as u32;
+    check_to(code, AccessSize::Word, off, word, end);
+    check_to(code, AccessSize::Half, off + 4, half, end);
 }
 
-// `emit_ether_host`: the destination at 0 comes first; a link without Ethernet is refused before.
-pub(crate) fn emit_ether_host(
-    out: &mut [u8],
-    work: &mut [u32],
-    st: Patches,
-    mode: u8,
-    link: LinkType,
-    addr: u64,
-    dir: Dir,
-) -> Patches
-    requires { Fits (emit_ether_host mode link addr dir) st }
-    ensures { em out.new work.new result ≡ block (emit_ether_host mode link addr dir) (em out.old work.old st) }
+// `emit_ether_host`: the destination at 0 comes first; a link without Ethernet is refused before. Its switch on the direction stays, as `check_addr4`'s does.
+pub(crate) fn emit_ether_host(code: &mut Codegen, addr: u64, dir: Dir)
+    requires { Fits (emit_ether_host code.old.mode code.old.link addr dir) code.old.patches }
+    ensures { emission code.new ≡ block (emit_ether_host code.old.mode code.old.link addr dir) (emission code.old) }
 {
     match dir {
-        Dir::Src => check_mac(out, work, st, mode, link, 6, addr, 0),
-        Dir::Dst => check_mac(out, work, st, mode, link, 0, addr, 0),
+        Dir::Src => check_mac(code, 6, addr, 0),
+        Dir::Dst => check_mac(code, 0, addr, 0),
         Dir::SrcAndDst => {
-            let a = check_mac(out, work, st, mode, link, 0, addr, 0);
-            check_mac(out, work, a, mode, link, 6, addr, 0)
+            check_mac(code, 0, addr, 0);
+            check_mac(code, 6, addr, 0);
         }
         Dir::SrcOrDst => {
-            let a = check_mac(out, work, st, mode, link, 0, addr, st.pos + 13);
-            let b = push_success(out, work, a, Insn::ja(0));
-            check_mac(out, work, b, mode, link, 6, addr, 0)
+            check_mac(code, 0, addr, code.patches.pos + 13);
+            code.push_success(Insn::ja(0));
+            check_mac(code, 6, addr, 0);
         }
     }
 }

@@ -1,32 +1,17 @@
 -- The laws of an instruction's bytes: where there is room and where not, and the two round trips.
-use Rattle.std.proofs.Common.{◌≡◌, ℕ, ◌+◌, ◌*◌, ◌/◌, ◌%◌, ◌^◌, ◌<◌, ◌≤◌, List, ◌++◌, length, get_or, take, drop, set, ap, ◌∙◌, subst, add-zero, arith, length-append, length-take-le, get_or-append-add, le-leb}
+use Rattle.std.proofs.Common.{◌≡◌, ℕ, ◌+◌, ◌*◌, ◌/◌, ◌%◌, ◌^◌, ◌<◌, ◌≤◌, Some, List, ◌++◌, length, get_or, take, drop, ap, append_assoc, ◌∙◌, subst, add-zero, arith, length-append, length-take-le, get_or-append-add, le-leb}
 use native.Mathlib.Numerals.{towards_suc}
-use borrow.Author.Tests.{lt-leb}
 use lib.ListN.{get_or-append}
+use borrow.Rule.Slice.PartMut.{put_mid}
+use Rattle.std.proofs.lemmas.List.{drop-drop}
 use lib.Seq.{sets, length-sets, set-get_or, sets-eq}
 use Rattle.ebpf.specs.Insn.{to_le_bytes, insn_at, stored_at, fetch_at}
 use Rattle.ebpf.specs.declared.insn.Insn.{Insn}
-use Rattle.ebpf.specs.declared.insn.Fetched.TheVariants.{Here, Nothing}
 
-pub store_full : (s : List ℕ) (at : ℕ) (i : Insn) → length s < at + 8 → s ≡ stored_at s at i
-unfolding stored_at
-store_full s at i h = simp (lt-leb (at + 8) (length s) h)
-
--- the eight stores, as straight-line code leaves them
-pub store_room : (s : List ℕ) (at : ℕ) (i : Insn) (b : List ℕ) → at + 8 ≤ length s → b ≡ to_le_bytes i
-    → set (set (set (set (set (set (set (set s at (get_or b 0 0)) (at + 1) (get_or b 1 0)) (at + 2) (get_or b 2 0)) (at + 3) (get_or b 3 0))
-    (at + 4) (get_or b 4 0)) (at + 5) (get_or b 5 0)) (at + 6) (get_or b 6 0)) (at + 7) (get_or b 7 0)
-    ≡ stored_at s at i
+-- the eight bytes put into the part that they take
+pub store_room : (s b : List ℕ) (at k : ℕ) (i : Insn) → at + 8 ≤ length s → k ≡ 8 → b ≡ to_le_bytes i → put_mid at k s b ≡ stored_at s at i
 unfolding stored_at to_le_bytes
-store_room s at i b h e = simp (le-leb (at + 8) (length s) h, e) (simp towards_suc)
-
-pub fetch_full : (s : List ℕ) (at : ℕ) → length s < at + 8 → Nothing ≡ fetch_at s at
-unfolding fetch_at
-fetch_full s at h = simp (lt-leb (at + 8) (length s) h)
-
-pub fetch_room : (s : List ℕ) (at : ℕ) (i : Insn) → at + 8 ≤ length s → i ≡ insn_at s at → Here i ≡ fetch_at s at
-unfolding fetch_at
-fetch_room s at i h e = simp (le-leb (at + 8) (length s) h, e)
+store_room s b at k i h e eb = simp (le-leb (at + 8) (length s) h, e, eb, sets-eq (to_le_bytes i) s at h, append_assoc, drop-drop)
 
 -- what stands in a run of stores
 sets_get : (s : List ℕ) (at : ℕ) (vs : List ℕ) (k : ℕ) → at + length vs ≤ length s → k < length vs
@@ -49,7 +34,7 @@ pub split32 : (x : ℕ) → x < 2 ^ 32 → x % 256 + x / 256 % 256 * 256 + x / 6
 split32 x h = omega arith
 
 -- THEOREM: any record written and read back is the same record.
-pub written_read : (s : List ℕ) (at : ℕ) (i : Insn) → at + 8 ≤ length s → Sized i → fetch_at (stored_at s at i) at ≡ Here i
+pub written_read : (s : List ℕ) (at : ℕ) (i : Insn) → at + 8 ≤ length s → Sized i → fetch_at (stored_at s at i) at ≡ Some i
 unfolding fetch_at insn_at stored_at to_le_bytes
 written_read s at i h z =
     let g : (k : ℕ) → k < 8 → get_or (sets s at (to_le_bytes i)) (at + k) 0 ≡ get_or (to_le_bytes i) k 0 = λ k hk. sets_get s at (to_le_bytes i) k h hk in

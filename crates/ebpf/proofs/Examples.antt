@@ -6,7 +6,7 @@ use Rattle.ebpf.specs.Opcode.{ADD, MOV, JMP, JNE, JGT, WORD, HALF}
 use Rattle.ebpf.specs.Alu.{sext16, sext32, alu32, alu64, swapped, compares}
 use Rattle.ebpf.specs.Form.{plain, allowed, form_of, form_at, load_form, reg64_form, imm64_form, imm32_form, swap_form, jump_form, branch_form, branch_reg_form, exit_form}
 use Rattle.ebpf.specs.Regs.{fresh, known_of, value_of, with_of}
-use Rattle.ebpf.specs.Step.{le_at, context_act, frame_act, load_act, readable, reg64_act, imm64_act, imm32_act, swap_act, branch_act, branch_reg_act, exit_act, act_of, act_at, regs_after, place_after, status_of, turn_of, step_of}
+use Rattle.ebpf.specs.Step.{le_at, context_act, frame_act, load_act, readable, reg64_act, imm64_act, imm32_act, swap_act, branch_act, branch_reg_act, exit_act, act_of, act_at, regs_after, place_after, halt_of, turn_of, step_of}
 use Rattle.ebpf.specs.Run.{first_state, ended_of, go_of, run_of}
 use Rattle.ebpf.specs.declared.insn.Insn.{Insn}
 
@@ -48,5 +48,5 @@ cut_frame = 1 ∷ 2 ∷ 3 ∷ 4 ∷ 5 ∷ 6 ∷ 7 ∷ 8 ∷ 9 ∷ 10 ∷ 11 ∷ 
 pub k2_runs : (run_of k2 ip_frame 4096 12 ≡ record { stop = 0; r0 = 2; steps = 10 })
     × (run_of k2 arp_frame 4096 12 ≡ record { stop = 0; r0 = 1; steps = 10 })
     × (run_of k2 cut_frame 4096 12 ≡ record { stop = 0; r0 = 1; steps = 7 })
-unfolding insn_at sext16 sext32 alu32 alu64 swapped compares plain allowed form_of form_at load_form reg64_form imm64_form imm32_form swap_form jump_form branch_form branch_reg_form exit_form fresh known_of value_of with_of le_at context_act frame_act load_act readable reg64_act imm64_act imm32_act swap_act branch_act branch_reg_act exit_act act_of act_at regs_after place_after status_of turn_of step_of first_state ended_of go_of run_of
+unfolding insn_at sext16 sext32 alu32 alu64 swapped compares plain allowed form_of form_at load_form reg64_form imm64_form imm32_form swap_form jump_form branch_form branch_reg_form exit_form fresh known_of value_of with_of le_at context_act frame_act load_act readable reg64_act imm64_act imm32_act swap_act branch_act branch_reg_act exit_act act_of act_at regs_after place_after halt_of turn_of step_of first_state ended_of go_of run_of
 k2_runs = (refl, refl, refl)

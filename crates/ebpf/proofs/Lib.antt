@@ -1,7 +1,5 @@
 pub mod Halves
 pub mod Coding
-pub mod Numbers
-pub mod Acts
 pub mod Runs
 pub mod SureRows
 pub mod SureArms

@@ -4,12 +4,12 @@ use native.Mathlib.Nat.{sub-zero}
 use Rattle.ebpf.specs.Alu.{sext16, sext32, alu32, alu64, swapped, compares}
 use Rattle.ebpf.specs.Form.{Form, Context, Load, Swap, only, plain, allowed, load_form, reg64_form, imm64_form, imm32_form, swap_form, jump_form, branch_form, branch_reg_form, exit_form}
 use Rattle.ebpf.specs.Regs.{regs_of, known_of, value_of}
-use Rattle.ebpf.specs.Step.{le_at, context_act, frame_act, load_act, readable, reg64_act, imm64_act, imm32_act, swap_act, branch_act, branch_reg_act, exit_act, taken, act_of}
+use Rattle.ebpf.specs.Step.{stopped, le_at, context_act, frame_act, load_act, readable, reg64_act, imm64_act, imm32_act, swap_act, branch_act, branch_reg_act, exit_act, taken, act_of}
 use Rattle.ebpf.specs.declared.act.Act.{Act}
-use Rattle.ebpf.specs.declared.act.Act.TheVariants.{Writes, Jumps, Halts}
+use Rattle.ebpf.specs.declared.act.Act.TheVariants.{Writes, Jumps}
 use Rattle.ebpf.specs.Sure.{Fine, Low}
 
-pub fine_if : (b : Bool) (a : Act) (s r0 : ℕ) → (s ≡ 0 → ⊥) → Fine (cond b a (Halts s r0)) → (b ≡ true) × Fine a
+pub fine_if : (b : Bool) (a : Act) (s r0 : ℕ) → (s ≡ 0 → ⊥) → Fine (cond b a (stopped s r0)) → (b ≡ true) × Fine a
 fine_if true a s r0 ne h = (refl, h)
 fine_if false a s r0 ne h = absurd (ne h)
 
@@ -90,7 +90,7 @@ module _ (frame v : List ℕ) (w : List Bool) where
       let b = fine_only (eqb imm 0) _ a.1 in
       rw (a.0, b.0) refl
 
-  pub exit_row : (regs off imm : ℕ) → Fine (act_of (exit_form regs off imm) frame 0 (regs_of v w)) → act_of (exit_form regs off imm) frame 0 (regs_of v w) ≡ Halts 0 (get_or v 0 0)
+  pub exit_row : (regs off imm : ℕ) → Fine (act_of (exit_form regs off imm) frame 0 (regs_of v w)) → act_of (exit_form regs off imm) frame 0 (regs_of v w) ≡ stopped 0 (get_or v 0 0)
   unfolding exit_form act_of exit_act value_of
   exit_row regs off imm h =
       let a = fine_only (eqb regs 0) _ h in
@@ -151,7 +151,7 @@ module _ (frame v : List ℕ) (w : List Bool) where
   unfolding context_act
   context_low len dst off h = go (eqb off 0) (eqb off 4)
     where
-      go : (s t : Bool) → Low (cond s (Writes dst 0) (cond t (Writes dst ((0 + len) % 2 ^ 64)) (Halts 31 0)))
+      go : (s t : Bool) → Low (cond s (Writes dst 0) (cond t (Writes dst ((0 + len) % 2 ^ 64)) (stopped 31 0)))
       go true t = h
       go false true = h
       go false false = tt

@@ -1,6 +1,6 @@
 -- The arithmetic of RFC 9669. A number of k bits is a natural number below 2 ^ k; a negative one is its two's complement.
 use Rattle.std.specs.Prelude.{ℕ, ◌+◌, ◌-◌, ◌*◌, ◌/◌, ◌%◌, ◌^◌, Bool, false, cond, not, ◌==◌, bit_and, bit_or, bit_xor, nat_le, nat_lt}
-use Rattle.ebpf.specs.Opcode.{ADD, SUB, MUL, DIV, OR, AND, LSH, RSH, XOR, JEQ, JGT, JGE, JSET, JNE, JLT, JLE}
+use Rattle.ebpf.specs.Opcode.{JMP, ADD, SUB, MUL, DIV, OR, AND, LSH, RSH, XOR, JEQ, JGT, JGE, JSET, JNE, JLT, JLE}
 
 -- Section 2.3: 16 and 32 bits widened to 64 with their sign.
 unfoldable pub sext16 : ℕ → ℕ
@@ -44,3 +44,7 @@ compares operation a b =
     (cond (operation == JNE) (not (a == b))
     (cond (operation == JLT) (nat_lt a b)
     (cond (operation == JLE) (nat_le a b) false))))))
+
+-- Section 4.3: class JMP compares 64 bits with the immediate widened with its sign, class JMP32 the low 32 bits with the immediate.
+abbrev pub compares_imm : ℕ → ℕ → ℕ → ℕ → Bool
+compares_imm class operation a imm = cond (class == JMP) (compares operation a (sext32 imm)) (compares operation (a % 2 ^ 32) imm)

@@ -1,10 +1,8 @@
 -- An instruction, its eight bytes, and the forms that a filter program is made of (RFC 9669, sections 3 to 5).
-use Rattle.std.specs.Prelude.{ℕ, ◌+◌, ◌*◌, ◌/◌, ◌%◌, cond, List, [], ◌∷◌, length, nat_le, slice_index}
+use Rattle.std.specs.Prelude.{ℕ, ◌+◌, ◌*◌, ◌/◌, ◌%◌, cond, List, [], ◌∷◌, Option, Some, None, length, nat_le, slice_index}
 use Rattle.std.proofs.lemmas.List.Edits.{sets}
 use Rattle.ebpf.specs.Opcode.{LDX, ALU, JMP, ALU64, K, X, END, TO_BE, JA, EXIT, MEM, opcode, load_opcode}
 use Rattle.ebpf.specs.declared.insn.Insn.{Insn}
-use Rattle.ebpf.specs.declared.insn.Fetched.{Fetched}
-use Rattle.ebpf.specs.declared.insn.Fetched.TheVariants.{Here, Nothing}
 
 -- Section 3.1: the destination register stands in the low four bits of `regs`, the source register in the high four.
 unfoldable pub new : ℕ → ℕ → ℕ → ℕ → ℕ → Insn
@@ -64,8 +62,8 @@ insn_at s at =
     }
 
 -- Reading at `at`: the instruction, where its eight bytes are there.
-unfoldable pub fetch_at : List ℕ → ℕ → Fetched
-fetch_at s at = cond (nat_le (at + 8) (length s)) (Here (insn_at s at)) Nothing
+unfoldable pub fetch_at : List ℕ → ℕ → Option Insn
+fetch_at s at = cond (nat_le (at + 8) (length s)) (Some (insn_at s at)) None
 
 -- Writing at `at`: the eight bytes, where there is room for them, else nothing; every other byte stays.
 unfoldable pub stored_at : List ℕ → ℕ → Insn → List ℕ

@@ -1,30 +1,32 @@
 -- One step of the machine, a little-endian host (RFC 9669 and document 01, "The machine").
-use Rattle.std.specs.Prelude.{ℕ, ◌+◌, ◌-◌, ◌*◌, ◌/◌, ◌%◌, ◌^◌, ◌≤◌, Bool, true, cond, List, length, ◌==◌, ◌≢◌, nat_le, nat_lt, slice_index}
-use Rattle.ebpf.specs.Opcode.{MOV, JMP}
+use Rattle.std.specs.Prelude.{ℕ, ◌+◌, ◌-◌, ◌*◌, ◌/◌, ◌%◌, ◌^◌, ◌≤◌, Bool, true, cond, List, Option, Some, None, length, ◌==◌, ◌≢◌, nat_le, nat_lt, slice_index}
+use Rattle.ebpf.specs.Opcode.{MOV}
 use Rattle.ebpf.specs.Insn.{insn_at}
-use Rattle.ebpf.specs.Alu.{sext16, sext32, alu32, alu64, swapped, compares}
+use Rattle.ebpf.specs.Alu.{sext16, sext32, alu32, alu64, swapped, compares, compares_imm}
 use Rattle.ebpf.specs.Form.{Form, NotOurs, Context, Load, Reg64, Imm64, Imm32, Swap, Jump, Branch, BranchReg, Exit, form_of}
 use Rattle.ebpf.specs.Regs.{known_of, value_of, with_of}
 use Rattle.ebpf.specs.declared.regs.Regs.{Regs}
+use Rattle.ebpf.specs.declared.act.Halt.{Halt}
 use Rattle.ebpf.specs.declared.act.Act.{Act}
 use Rattle.ebpf.specs.declared.act.Act.TheVariants.{Writes, Jumps, Falls, Halts}
 use Rattle.ebpf.specs.declared.step.State.{State}
-use Rattle.ebpf.specs.declared.step.Status.{Status}
-use Rattle.ebpf.specs.declared.step.Status.TheVariants.{Going, Halted}
 use Rattle.ebpf.specs.declared.step.Turn.{Turn}
 
 -- The stops of a step, by document 01's numbers: 30 no form of ours, 31 a load outside, 32 a register not yet written, 33 no instruction there.
+abbrev pub stopped : ℕ → ℕ → Act
+stopped stop r0 = Halts (record { stop = stop; r0 = r0 })
+
 abbrev pub not_ours : Act
-not_ours = Halts 30 0
+not_ours = stopped 30 0
 
 abbrev pub outside : Act
-outside = Halts 31 0
+outside = stopped 31 0
 
 abbrev pub unwritten : Act
-unwritten = Halts 32 0
+unwritten = stopped 32 0
 
 abbrev pub nowhere : Act
-nowhere = Halts 33 0
+nowhere = stopped 33 0
 
 -- The sizes of a load: one byte, two, or four and more.
 abbrev pub Width : ℕ → Type 0
@@ -77,12 +79,9 @@ swap_act r dst bits = cond (known_of r dst) (Writes dst (swapped bits (value_of 
 abbrev pub taken : Bool → ℕ → Act
 taken b off = cond b (Jumps off) Falls
 
--- Section 4.3: class JMP compares 64 bits with the immediate widened with its sign, class JMP32 the low 32 bits with the immediate.
 unfoldable pub branch_act : Regs → ℕ → ℕ → ℕ → ℕ → ℕ → Act
 branch_act r class operation dst imm off =
-    cond (known_of r dst)
-    (taken (cond (class == JMP) (compares operation (value_of r dst) (sext32 imm)) (compares operation (value_of r dst % 2 ^ 32) imm)) off)
-    unwritten
+    cond (known_of r dst) (taken (compares_imm class operation (value_of r dst) imm) off) unwritten
 
 unfoldable pub branch_reg_act : Regs → ℕ → ℕ → ℕ → ℕ → Act
 branch_reg_act r operation dst src off =
@@ -90,7 +89,7 @@ branch_reg_act r operation dst src off =
 
 -- Section 4.3: the exit gives what R0 holds.
 unfoldable pub exit_act : Regs → Act
-exit_act r = cond (known_of r 0) (Halts 0 (value_of r 0)) unwritten
+exit_act r = cond (known_of r 0) (stopped 0 (value_of r 0)) unwritten
 
 -- What an instruction of each form does.
 unfoldable pub act_of : Form → List ℕ → ℕ → Regs → Act
@@ -116,23 +115,24 @@ unfoldable pub regs_after : Act → Regs → Regs
 regs_after (Writes dst value) r = with_of r dst value
 regs_after (Jumps off) r = r
 regs_after Falls r = r
-regs_after (Halts stop r0) r = r
+regs_after (Halts halt) r = r
 
 -- The place after it. Section 4.3: a jump's offset counts from the next instruction; a place is a 64-bit number.
 unfoldable pub place_after : Act → ℕ → ℕ
 place_after (Writes dst value) pc = (pc + 1) % 2 ^ 64
 place_after (Jumps off) pc = ((pc + 1) % 2 ^ 64 + sext16 off) % 2 ^ 64
 place_after Falls pc = (pc + 1) % 2 ^ 64
-place_after (Halts stop r0) pc = pc
+place_after (Halts halt) pc = pc
 
-unfoldable pub status_of : Act → Status
-status_of (Writes dst value) = Going
-status_of (Jumps off) = Going
-status_of Falls = Going
-status_of (Halts stop r0) = Halted stop r0
+-- How the run ends, if it ends there.
+unfoldable pub halt_of : Act → Option Halt
+halt_of (Writes dst value) = None
+halt_of (Jumps off) = None
+halt_of Falls = None
+halt_of (Halts halt) = Some halt
 
 unfoldable pub turn_of : Act → State → Turn
-turn_of a s = record { state = record { regs = regs_after a s.regs; pc = place_after a s.pc }; status = status_of a }
+turn_of a s = record { state = record { regs = regs_after a s.regs; pc = place_after a s.pc }; halt = halt_of a }
 
 -- One step from a state.
 unfoldable pub step_of : List ℕ → List ℕ → ℕ → State → Turn

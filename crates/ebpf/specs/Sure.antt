@@ -1,37 +1,42 @@
 -- The run of a program that exits: what its steps do where no test is made.
 use Rattle.std.specs.Prelude.{◌≡◌, ℕ, ◌+◌, ◌/◌, ◌%◌, ◌^◌, ◌<◌, Bool, cond, List, length, ◌==◌, slice_index, slice_set}
-use Rattle.ebpf.specs.Insn.{insn_at}
-use Rattle.ebpf.specs.Alu.{sext16, sext32, alu32, alu64, swapped, compares}
+use Rattle.ebpf.specs.Alu.{sext16, sext32, alu32, alu64, swapped, compares, compares_imm}
 use Rattle.ebpf.specs.Form.{form_of}
 use Rattle.ebpf.specs.Regs.{regs_of}
 use Rattle.ebpf.specs.Step.{le_at, context_act, taken, act_of}
+use Rattle.ebpf.specs.Insn.{insn_at}
 use Rattle.ebpf.specs.declared.insn.Insn.{Insn}
+use Rattle.ebpf.specs.declared.place.Place.{Place}
 use Rattle.ebpf.specs.declared.act.Act.{Act}
 use Rattle.ebpf.specs.declared.act.Act.TheVariants.{Writes, Jumps, Falls, Halts}
+
+-- The instruction at a place of the program.
+abbrev pub read : Place → Insn
+read i = insn_at i.program.now i.at
 
 -- No stop but the exit.
 abbrev pub Fine : Act → Type 0
 Fine (Writes dst value) = Unit {0}
 Fine (Jumps off) = Unit {0}
 Fine Falls = Unit {0}
-Fine (Halts stop r0) = stop ≡ 0
+Fine (Halts halt) = halt.stop ≡ 0
 
 -- It writes one of the seven registers, if any.
 abbrev pub Low : Act → Type 0
 Low (Writes dst value) = dst < 7
 Low (Jumps off) = Unit {0}
 Low Falls = Unit {0}
-Low (Halts stop r0) = Unit {0}
+Low (Halts halt) = Unit {0}
 
--- With some registers written, the instruction at `at` is fine.
-abbrev pub SureAct : List ℕ → ℕ → List ℕ → List ℕ → Type 0
-SureAct program at frame values = (w : List Bool) × Fine (act_of (form_of (insn_at program at)) frame 0 (regs_of values w))
+-- With some registers written, the instruction is fine.
+abbrev pub SureAct : Insn → List ℕ → List ℕ → Type 0
+SureAct i frame values = (w : List Bool) × Fine (act_of (form_of i) frame 0 (regs_of values w))
 
 unfoldable pub values_after : Act → List ℕ → List ℕ
 values_after (Writes dst value) values = slice_set values dst value
 values_after (Jumps off) values = values
 values_after Falls values = values
-values_after (Halts stop r0) values = values
+values_after (Halts halt) values = values
 
 -- What an instruction of each family does where nothing has to be asked, by the values of the registers.
 unfoldable pub address_of : Insn → List ℕ → ℕ
@@ -57,7 +62,7 @@ sure_swap i values = Writes i.regs (swapped i.imm (slice_index values i.regs))
 
 unfoldable pub sure_branch : ℕ → ℕ → Insn → List ℕ → Act
 sure_branch class op i values =
-    taken (cond (class == 5) (compares op (slice_index values i.regs) (sext32 i.imm)) (compares op (slice_index values i.regs % 2 ^ 32) i.imm)) i.off
+    taken (compares_imm class op (slice_index values i.regs) i.imm) i.off
 
 unfoldable pub sure_branch_reg : ℕ → Insn → List ℕ → Act
 sure_branch_reg op i values = taken (compares op (slice_index values (i.regs % 16)) (slice_index values (i.regs / 16))) i.off

@@ -1,6 +1,6 @@
 // Port of ebpf.rs: an instruction, its eight bytes, and the forms that a filter program is made of.
 // `off` and `imm` are the bits of the Rust's i16 and i32: a negative number is its two's complement.
-ghost use Rattle.std.specs.Prelude.{◌≡◌, ◌+◌, ◌*◌, ◌≤◌, length};
+ghost use Rattle.std.specs.Prelude.{◌≡◌, ◌+◌, ◌≤◌, length};
 ghost use Rattle.ebpf.specs.Opcode.{ADD, SUB, MUL, DIV, OR, AND, LSH, RSH, XOR, MOV, WORD, HALF, BYTE};
 ghost use Rattle.ebpf.specs.Opcode.{JMP, JMP32, JEQ, JNE, JGT, JGE, JLT, JLE, JSET};
 ghost use Rattle.ebpf.specs.Insn.{new, dst_of, src_of, to_le_bytes, insn_at, fetch_at, stored_at};
@@ -96,7 +96,7 @@ pub const XDP_DROP: u32 = 1;
 
 pub const XDP_PASS: u32 = 2;
 
-#[derive(Clone, Copy)]
+#[derive(Clone, Copy, PartialEq, Eq)]
 pub struct Insn {
     pub code: u8,
     pub regs: u8,
@@ -104,40 +104,8 @@ pub struct Insn {
     pub imm: u32,
 }
 
-// What stands at a place of a program.
-#[derive(Clone, Copy)]
-pub enum Fetched {
-    Here(Insn),
-    Nothing,
-}
-
-// Two and four bytes, the low one first.
-pub(crate) fn le16(a: u8, b: u8) -> u16
-    ensures { result ≡ a + b * 256 }
-{
-    (a as u16) + (b as u16) * 256
-}
-
-pub(crate) fn le32(a: u8, b: u8, c: u8, d: u8) -> u32
-    ensures { result ≡ a + b * 256 + c * 65536 + d * 16777216 }
-{
-    (a as u32) + (b as u32) * 256 + (c as u32) * 65536 + (d as u32) * 16777216
-}
-
-// The instruction whose eight bytes start at `at`.
-pub(crate) fn insn_at(s: &[u8], at: usize) -> Insn
-    requires { at + 8 ≤ length s.now }
-    ensures { result ≡ insn_at s.now at }
-{
-    Insn {
-        code: s[at],
-        regs: s[at + 1],
-        off: le16(s[at + 2], s[at + 3]),
-        imm: le32(s[at + 4], s[at + 5], s[at + 6], s[at + 7]),
-    }
-}
-
 impl Insn {
+    #[tactic(auto, using(crate::proofs::Halves::packed), unfolding(crate::specs::Insn::new))]
     pub fn new(code: u8, dst: u8, src: u8, off: u16, imm: u32) -> Self
         ensures { result ≡ new code dst src off imm }
     {
@@ -150,6 +118,7 @@ impl Insn {
     }
 
     // Destination register number, the low half of `regs`.
+    #[tactic(auto, using(crate::proofs::Halves::low_half), unfolding(crate::specs::Insn::dst_of))]
     pub fn dst(self) -> u8
         ensures { result ≡ dst_of self }
     {
@@ -157,11 +126,14 @@ impl Insn {
     }
 
     // Source register number, the high half of `regs`.
+    #[tactic(auto, using(crate::proofs::Halves::high_half), unfolding(crate::specs::Insn::src_of))]
     pub fn src(self) -> u8
         ensures { result ≡ src_of self }
     {
         (self.regs >> 4) & 0xf
     }
+
+    // The constructors from here to `exit` stay one function each: the Rust's ebpf.rs has them by these names, but for `sub64_reg` and the seven comparisons of 32 bits, which are named like them.
 
     // `dst = src`, 64 bits.
     pub fn mov64_reg(dst: u8, src: u8) -> Self
@@ -415,55 +387,53 @@ impl Insn {
         Self::new(BPF_JMP | BPF_EXIT, 0, 0, 0, 0)
     }
 
+    // The instruction whose eight bytes start at `at`.
+    #[tactic(auto, unfolding(crate::specs::Insn::insn_at))]
+    pub(crate) fn at(s: &[u8], at: usize) -> Self
+        requires { at + 8 ≤ length s.now }
+        ensures { result ≡ insn_at s.now at }
+    {
+        Self {
+            code: s[at],
+            regs: s[at + 1],
+            off: u16::from_le_bytes([s[at + 2], s[at + 3]]),
+            imm: u32::from_le_bytes([s[at + 4], s[at + 5], s[at + 6], s[at + 7]]),
+        }
+    }
+
     // The eight bytes, little-endian.
+    #[tactic(auto, unfolding(crate::specs::Insn::to_le_bytes))]
     pub fn to_le_bytes(self) -> [u8; 8]
         ensures { result ≡ to_le_bytes self }
     {
-        [
-            self.code,
-            self.regs,
-            (self.off % 256) as u8,
-            (self.off / 256) as u8,
-            (self.imm % 256) as u8,
-            (self.imm / 256 % 256) as u8,
-            (self.imm / 65536 % 256) as u8,
-            (self.imm / 16777216) as u8,
-        ]
+        let [o0, o1] = self.off.to_le_bytes();
+        let [i0, i1, i2, i3] = self.imm.to_le_bytes();
+        [self.code, self.regs, o0, o1, i0, i1, i2, i3]
     }
 
     // Writes the eight bytes into the part of `out` that starts at `at`; where they do not fit, nothing.
+    #[tactic(auto, unfolding(crate::specs::Insn::stored_at))]
     pub fn store(self, out: &mut [u8], at: usize)
         ensures { out.new ≡ stored_at out.old at self }
     {
-        let n = out.len();
-        if n < 8 {
+        let len = out.len();
+        let Some(end) = at.checked_add(8) else {
+            return;
+        };
+        if len < end {
             return;
         }
-        if n - 8 < at {
-            return;
-        }
-        let b = self.to_le_bytes();
-        out[at] = b[0];
-        out[at + 1] = b[1];
-        out[at + 2] = b[2];
-        out[at + 3] = b[3];
-        out[at + 4] = b[4];
-        out[at + 5] = b[5];
-        out[at + 6] = b[6];
-        out[at + 7] = b[7];
+        out[at..end].copy_from_slice(&self.to_le_bytes());
     }
 
     // Reads the eight bytes of the part of `s` that starts at `at`.
-    pub fn fetch(s: &[u8], at: usize) -> Fetched
+    #[tactic(auto, unfolding(crate::specs::Insn::fetch_at))]
+    pub fn fetch(s: &[u8], at: usize) -> Option<Self>
         ensures { result ≡ fetch_at s.now at }
     {
-        let n = s.len();
-        if n < 8 {
-            return Fetched::Nothing;
+        if s.len() < 8 || s.len() - 8 < at {
+            return None;
         }
-        if n - 8 < at {
-            return Fetched::Nothing;
-        }
-        Fetched::Here(insn_at(s, at))
+        Some(Self::at(s, at))
     }
 }

@@ -4,6 +4,7 @@
 pub mod act;
 pub mod alu;
 pub mod insn;
+pub(crate) mod place;
 pub mod regs;
 pub mod run;
 pub mod step;

@@ -1,44 +1,40 @@
 // The registers R0 to R6. R1 is the context: it has no number, and its two places are never used.
-ghost use Rattle.std.specs.Prelude.{◌≡◌, true, false, slice_index, slice_index_or, slice_set};
+ghost use Rattle.std.specs.Prelude.{◌≡◌};
+ghost use Rattle.ebpf.specs.Regs.{known_of, value_of, with_of};
 
-#[derive(Clone, Copy)]
+// Two arrays stay, not one of options: `step` promises what becomes of any values, also of registers not yet written, and `run_sure` keeps no marks.
+#[derive(Clone, Copy, PartialEq, Eq)]
 pub struct Regs {
     pub values: [u64; 7],
     pub written: [bool; 7],
 }
 
-// Whether register `i` has been written.
-pub(crate) fn known(written: &[bool], i: u8) -> bool
-    ensures { result ≡ slice_index_or written.now i false }
-{
-    let k = i as usize;
-    if k < written.len() { written[k] } else { false }
-}
-
-// What register `i` holds.
-pub(crate) fn value(values: &[u64], i: u8) -> u64
-    ensures { result ≡ slice_index values.now i }
-{
-    let k = i as usize;
-    if k < values.len() { values[k] } else { 0 }
-}
-
-// Register `i` now holds `v`.
-pub(crate) fn write(values: &mut [u64], i: u8, v: u64)
-    ensures { values.new ≡ slice_set values.old i v }
-{
-    let k = i as usize;
-    if k < values.len() {
-        values[k] = v;
+impl Regs {
+    // Whether register `i` has been written.
+    #[tactic(auto, unfolding(crate::specs::Regs::known_of))]
+    pub(crate) fn known(&self, i: u8) -> bool
+        ensures { result ≡ known_of self.now i }
+    {
+        self.written.get(i as usize).copied().unwrap_or(false)
     }
-}
 
-// Register `i` has now been written.
-pub(crate) fn mark(written: &mut [bool], i: u8)
-    ensures { written.new ≡ slice_set written.old i true }
-{
-    let k = i as usize;
-    if k < written.len() {
-        written[k] = true;
+    // What register `i` holds.
+    #[tactic(auto, unfolding(crate::specs::Regs::value_of))]
+    pub(crate) fn value(&self, i: u8) -> u64
+        ensures { result ≡ value_of self.now i }
+    {
+        self.values.get(i as usize).copied().unwrap_or(0)
+    }
+
+    // Register `i` has now been written and holds `v`.
+    #[tactic(auto, unfolding(crate::specs::Regs::with_of))]
+    pub(crate) fn write(&mut self, i: u8, v: u64)
+        ensures { self.new ≡ with_of self.old i v }
+    {
+        let k = i as usize;
+        if k < 7 {
+            self.values[k] = v;
+            self.written[k] = true;
+        }
     }
 }

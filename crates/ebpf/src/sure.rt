@@ -1,262 +1,182 @@
 // The run of a program that is known to exit: no form, no register and no address is tested, since a test that failed would have
-// stopped it. Each family of opcodes reads the fields that it needs, and no others.
-ghost use Rattle.std.specs.Prelude.{◌≡◌, ◌+◌, ◌*◌, ◌/◌, ◌%◌, ◌^◌, ◌<◌, ◌≤◌, Bool, List, length, ◌≢◌, slice_index, slice_set};
-ghost use Rattle.ebpf.specs.Insn.{insn_at};
+// stopped it.
+ghost use Rattle.std.specs.Prelude.{◌≡◌, ◌+◌, ◌/◌, ◌%◌, ◌<◌, ◌≤◌, List, Bool, length, ◌≢◌, slice_index};
 ghost use Rattle.ebpf.specs.Form.{form_of};
 ghost use Rattle.ebpf.specs.Regs.{regs_of};
-ghost use Rattle.ebpf.specs.Step.{Width, act_of};
+ghost use Rattle.ebpf.specs.Step.{Width, stopped, act_of};
 ghost use Rattle.ebpf.specs.Run.{run_of};
-ghost use Rattle.ebpf.specs.Sure.{Fine, Low, SureAct, values_after, address_of, sure_load, sure_word, sure_reg64, sure_imm64, sure_imm32};
+ghost use Rattle.ebpf.specs.Sure.{read, Fine, Low, SureAct, values_after, address_of, sure_load, sure_word, sure_reg64, sure_imm64, sure_imm32};
 ghost use Rattle.ebpf.specs.Sure.{sure_swap, sure_branch, sure_branch_reg};
-ghost use Rattle.ebpf.specs.declared.act.Act.TheVariants.{Jumps, Halts};
+ghost use Rattle.ebpf.specs.declared.act.Act.TheVariants.{Jumps};
 
-use crate::act::Act;
-use crate::step::Status;
-use crate::{act, alu, insn, step};
-
-// The fields of the instruction at byte `at`.
-fn code_at(program: &[u8], at: usize) -> u8
-    requires { at + 8 ≤ length program.now }
-    ensures { result ≡ (insn_at program.now at).code }
-{
-    program[at]
-}
-
-fn regs_at(program: &[u8], at: usize) -> u8
-    requires { at + 8 ≤ length program.now }
-    ensures { result ≡ (insn_at program.now at).regs }
-{
-    program[at + 1]
-}
-
-fn off_at(program: &[u8], at: usize) -> u16
-    requires { at + 8 ≤ length program.now }
-    ensures { result ≡ (insn_at program.now at).off }
-{
-    insn::le16(program[at + 2], program[at + 3])
-}
-
-fn imm_at(program: &[u8], at: usize) -> u32
-    requires { at + 8 ≤ length program.now }
-    ensures { result ≡ (insn_at program.now at).imm }
-{
-    insn::le32(
-        program[at + 4],
-        program[at + 5],
-        program[at + 6],
-        program[at + 7],
-    )
-}
-
-// The value of a register that is one of the seven.
-fn value(values: &[u64], i: u8) -> u64
-    requires { i < length values.now }
-    ensures { result ≡ slice_index values.now i }
-{
-    values[i as usize]
-}
-
-fn write(values: &mut [u64], i: u8, v: u64)
-    requires { i < length values.old }
-    ensures { values.new ≡ slice_set values.old i v }
-{
-    values[i as usize] = v;
-}
+use crate::act::{Act, Frame, Halt};
+use crate::insn::R1;
+use crate::place::Place;
+use crate::{act, alu, step};
 
 // A load from the frame, which lies at 0.
-fn frame_load(size: u8, program: &[u8], at: usize, frame: &[u8], values: &[u64]) -> Act
-    requires at_in_bounds { at + 8 ≤ length program.now }
-    requires width { Width size × ((insn_at program.now at).regs / 16 < length values.now) × (address_of (insn_at program.now at) values.now + size ≤ length frame.now) }
-    ensures { result ≡ sure_load size (insn_at program.now at) frame.now values.now }
+#[tactic(auto, unfolding(crate::specs::Sure::sure_load, crate::specs::Sure::address_of, crate::specs::Insn::dst_of, crate::specs::Insn::src_of))]
+fn frame_load(size: u8, i: Place, frame: &[u8], values: &[u64; 7]) -> Act
+    requires { Width size × ((read i).regs / 16 < 7) × (address_of (read i) values.now + size ≤ length frame.now) }
+    ensures { result ≡ sure_load size (read i.entry) frame.now values.now }
 {
-    let regs = regs_at(program, at);
-    let off = off_at(program, at);
-    let p = std::num::wrapping_add_u64(value(values, regs / 16), alu::wide16(off));
+    let p = values[i.src() as usize].wrapping_add(alu::wide16(i.off()));
     Act::Writes {
-        dst: regs % 16,
+        dst: i.dst(),
         value: act::word(frame, p as usize, size),
     }
 }
 
 // A load of a word: from the context if R1 is its base.
-fn word_load(program: &[u8], at: usize, frame: &[u8], values: &[u64]) -> Act
-    requires at_in_bounds { at + 8 ≤ length program.now }
-    requires at_in_bounds_2 { ((insn_at program.now at).regs / 16 ≢ 1) → ((insn_at program.now at).regs / 16 < length values.now) × (address_of (insn_at program.now at) values.now + 4 ≤ length frame.now) }
-    ensures { result ≡ sure_word (insn_at program.now at) frame.now values.now }
+#[tactic(auto, unfolding(crate::specs::Sure::sure_word, crate::specs::Insn::dst_of, crate::specs::Insn::src_of))]
+fn word_load(i: Place, frame: &[u8], values: &[u64; 7]) -> Act
+    requires { ((read i).regs / 16 ≢ 1) → ((read i).regs / 16 < 7) × (address_of (read i) values.now + 4 ≤ length frame.now) }
+    ensures { result ≡ sure_word (read i.entry) frame.now values.now }
 {
-    let regs = regs_at(program, at);
-    if regs / 16 == 1 {
-        act::context_act(frame.len() as u64, 0, regs % 16, off_at(program, at))
+    if i.src() == R1 {
+        let at_zero = Frame {
+            bytes: frame,
+            start: 0,
+        };
+        act::context_act(at_zero, i.dst(), i.off())
     } else {
-        frame_load(4, program, at, frame, values)
+        frame_load(4, i, frame, values)
     }
 }
 
-// 64-bit arithmetic with a register.
-fn reg64(operation: u8, program: &[u8], at: usize, values: &[u64]) -> Act
-    requires at_in_bounds { at + 8 ≤ length program.now }
-    requires at_in_bounds_2 { ((insn_at program.now at).regs % 16 < length values.now) × ((insn_at program.now at).regs / 16 < length values.now) }
-    ensures { result ≡ sure_reg64 operation (insn_at program.now at) values.now }
+// 64-bit arithmetic with a register. `operation` here and below is RFC 9669's number, as it stands in the opcode's high half.
+#[tactic(auto, unfolding(crate::specs::Sure::sure_reg64, crate::specs::Insn::dst_of, crate::specs::Insn::src_of))]
+fn reg64(operation: u8, i: Place, values: &[u64; 7]) -> Act
+    requires { ((read i).regs % 16 < 7) × ((read i).regs / 16 < 7) }
+    ensures { result ≡ sure_reg64 operation (read i.entry) values.now }
 {
-    let regs = regs_at(program, at);
-    let a = value(values, regs % 16);
+    let (a, b) = (values[i.dst() as usize], values[i.src() as usize]);
     Act::Writes {
-        dst: regs % 16,
-        value: alu::op64(operation, a, value(values, regs / 16)),
+        dst: i.dst(),
+        value: alu::op64(operation, a, b),
     }
 }
 
 // 64-bit arithmetic with an immediate.
-fn imm64(operation: u8, program: &[u8], at: usize, values: &[u64]) -> Act
-    requires at_in_bounds { at + 8 ≤ length program.now }
-    requires at_in_bounds_2 { (insn_at program.now at).regs < length values.now }
-    ensures { result ≡ sure_imm64 operation (insn_at program.now at) values.now }
+#[tactic(auto, unfolding(crate::specs::Sure::sure_imm64))]
+fn imm64(operation: u8, i: Place, values: &[u64; 7]) -> Act
+    requires { (read i).regs < 7 }
+    ensures { result ≡ sure_imm64 operation (read i.entry) values.now }
 {
-    let regs = regs_at(program, at);
-    let b = alu::wide32(imm_at(program, at));
     Act::Writes {
-        dst: regs,
-        value: alu::op64(operation, value(values, regs), b),
+        dst: i.regs(),
+        value: alu::op64(operation, values[i.regs() as usize], alu::wide32(i.imm())),
     }
 }
 
 // 32-bit arithmetic with an immediate.
-fn imm32(operation: u8, program: &[u8], at: usize, values: &[u64]) -> Act
-    requires at_in_bounds { at + 8 ≤ length program.now }
-    requires at_in_bounds_2 { (insn_at program.now at).regs < length values.now }
-    ensures { result ≡ sure_imm32 operation (insn_at program.now at) values.now }
+#[tactic(auto, unfolding(crate::specs::Sure::sure_imm32))]
+fn imm32(operation: u8, i: Place, values: &[u64; 7]) -> Act
+    requires { (read i).regs < 7 }
+    ensures { result ≡ sure_imm32 operation (read i.entry) values.now }
 {
-    let regs = regs_at(program, at);
-    let v = alu::op32(
-        operation,
-        alu::low32(value(values, regs)),
-        imm_at(program, at),
-    );
+    let value = alu::op32(operation, alu::low32(values[i.regs() as usize]), i.imm());
     Act::Writes {
-        dst: regs,
-        value: v as u64,
+        dst: i.regs(),
+        value: u64::from(value),
     }
 }
 
 // Byte swaps to big-endian.
-fn swap_bytes(program: &[u8], at: usize, values: &[u64]) -> Act
-    requires at_in_bounds { at + 8 ≤ length program.now }
-    requires at_in_bounds_2 { (insn_at program.now at).regs < length values.now }
-    ensures { result ≡ sure_swap (insn_at program.now at) values.now }
+#[tactic(auto, unfolding(crate::specs::Sure::sure_swap))]
+fn swap_bytes(i: Place, values: &[u64; 7]) -> Act
+    requires { (read i).regs < 7 }
+    ensures { result ≡ sure_swap (read i.entry) values.now }
 {
-    let regs = regs_at(program, at);
     Act::Writes {
-        dst: regs,
-        value: alu::swap(imm_at(program, at), value(values, regs)),
-    }
-}
-
-// The jump that is always taken.
-fn jump(program: &[u8], at: usize) -> Act
-    requires { at + 8 ≤ length program.now }
-    ensures { result ≡ Jumps (insn_at program.now at).off }
-{
-    Act::Jumps {
-        off: off_at(program, at),
+        dst: i.regs(),
+        value: alu::swap(i.imm(), values[i.regs() as usize]),
     }
 }
 
 // Jumps that compare with an immediate.
-fn branch(class: u8, operation: u8, program: &[u8], at: usize, values: &[u64]) -> Act
-    requires at_in_bounds { at + 8 ≤ length program.now }
-    requires at_in_bounds_2 { (insn_at program.now at).regs < length values.now }
-    ensures { result ≡ sure_branch class operation (insn_at program.now at) values.now }
+#[tactic(auto, unfolding(crate::specs::Sure::sure_branch))]
+fn branch(class: u8, operation: u8, i: Place, values: &[u64; 7]) -> Act
+    requires { (read i).regs < 7 }
+    ensures { result ≡ sure_branch class operation (read i.entry) values.now }
 {
-    let a = value(values, regs_at(program, at));
-    let off = off_at(program, at);
-    let imm = imm_at(program, at);
-    if class == 5 {
-        act::branch_to(alu::compare(operation, a, alu::wide32(imm)), off)
-    } else {
-        act::branch_to(alu::compare(operation, a % 0x1_0000_0000, imm as u64), off)
-    }
+    let holds = alu::compare_imm(class, operation, values[i.regs() as usize], i.imm());
+    act::branch_to(holds, i.off())
 }
 
 // Jumps that compare with a register.
-fn branch_reg(operation: u8, program: &[u8], at: usize, values: &[u64]) -> Act
-    requires at_in_bounds { at + 8 ≤ length program.now }
-    requires at_in_bounds_2 { ((insn_at program.now at).regs % 16 < length values.now) × ((insn_at program.now at).regs / 16 < length values.now) }
-    ensures { result ≡ sure_branch_reg operation (insn_at program.now at) values.now }
+#[tactic(auto, unfolding(crate::specs::Sure::sure_branch_reg, crate::specs::Insn::dst_of, crate::specs::Insn::src_of))]
+fn branch_reg(operation: u8, i: Place, values: &[u64; 7]) -> Act
+    requires { ((read i).regs % 16 < 7) × ((read i).regs / 16 < 7) }
+    ensures { result ≡ sure_branch_reg operation (read i.entry) values.now }
 {
-    let regs = regs_at(program, at);
-    let a = value(values, regs % 16);
-    act::branch_to(
-        alu::compare(operation, a, value(values, regs / 16)),
-        off_at(program, at),
-    )
+    let (a, b) = (values[i.dst() as usize], values[i.src() as usize]);
+    act::branch_to(alu::compare(operation, a, b), i.off())
 }
 
 // The exit.
-fn leave(values: &[u64]) -> Act
-    requires { 0 < length values.now }
-    ensures { result ≡ Halts 0 (slice_index values.now 0) }
+fn leave(values: &[u64; 7]) -> Act
+    ensures { result ≡ stopped 0 (slice_index values.now 0) }
 {
-    Act::Halts {
+    Act::Halts(Halt {
         stop: 0,
-        r0: value(values, 0),
-    }
+        r0: values[0],
+    })
 }
 
-// What the instruction at byte `at` does, where it stops the machine for no fault.
-fn act_of(program: &[u8], at: usize, frame: &[u8], values: &[u64]) -> Act
-    requires { (at + 8 ≤ length program.now) × (length values.now ≡ 7) × SureAct program.now at frame.now values.now }
-    ensures { ((w : List Bool) → Fine (act_of (form_of (insn_at program.now at)) frame.now 0 (regs_of values.now w)) → result ≡ act_of (form_of (insn_at program.now at)) frame.now 0 (regs_of values.now w)) × Low result }
+// What an instruction does, where it stops the machine for no fault.
+fn act_of(i: Place, frame: &[u8], values: &[u64; 7]) -> Act
+    requires { SureAct (read i) frame.now values.now }
+    ensures { ((w : List Bool) → Fine (act_of (form_of (read i.entry)) frame.now 0 (regs_of values.now w)) → result ≡ act_of (form_of (read i.entry)) frame.now 0 (regs_of values.now w)) × Low result }
 {
-    match code_at(program, at) {
-        0x61 => word_load(program, at, frame, values),
-        0x69 => frame_load(2, program, at, frame, values),
-        0x71 => frame_load(1, program, at, frame, values),
-        0x0f => reg64(0, program, at, values),
-        0x1f => reg64(1, program, at, values),
-        0xbf => reg64(11, program, at, values),
-        0x07 => imm64(0, program, at, values),
-        0xb7 => imm64(11, program, at, values),
-        0x04 => imm32(0, program, at, values),
-        0x14 => imm32(1, program, at, values),
-        0x24 => imm32(2, program, at, values),
-        0x34 => imm32(3, program, at, values),
-        0x44 => imm32(4, program, at, values),
-        0x54 => imm32(5, program, at, values),
-        0x64 => imm32(6, program, at, values),
-        0x74 => imm32(7, program, at, values),
-        0xa4 => imm32(10, program, at, values),
-        0xdc => swap_bytes(program, at, values),
-        0x05 => jump(program, at),
-        0x15 => branch(5, 1, program, at, values),
-        0x25 => branch(5, 2, program, at, values),
-        0x35 => branch(5, 3, program, at, values),
-        0x45 => branch(5, 4, program, at, values),
-        0x55 => branch(5, 5, program, at, values),
-        0xa5 => branch(5, 10, program, at, values),
-        0xb5 => branch(5, 11, program, at, values),
-        0x16 => branch(6, 1, program, at, values),
-        0x26 => branch(6, 2, program, at, values),
-        0x36 => branch(6, 3, program, at, values),
-        0x46 => branch(6, 4, program, at, values),
-        0x56 => branch(6, 5, program, at, values),
-        0xa6 => branch(6, 10, program, at, values),
-        0xb6 => branch(6, 11, program, at, values),
-        0x2d => branch_reg(2, program, at, values),
+    match i.code() {
+        0x61 => word_load(i, frame, values),
+        0x69 => frame_load(2, i, frame, values),
+        0x71 => frame_load(1, i, frame, values),
+        0x0f => reg64(0, i, values),
+        0x1f => reg64(1, i, values),
+        0xbf => reg64(11, i, values),
+        0x07 => imm64(0, i, values),
+        0xb7 => imm64(11, i, values),
+        0x04 => imm32(0, i, values),
+        0x14 => imm32(1, i, values),
+        0x24 => imm32(2, i, values),
+        0x34 => imm32(3, i, values),
+        0x44 => imm32(4, i, values),
+        0x54 => imm32(5, i, values),
+        0x64 => imm32(6, i, values),
+        0x74 => imm32(7, i, values),
+        0xa4 => imm32(10, i, values),
+        0xdc => swap_bytes(i, values),
+        0x05 => Act::Jumps { off: i.off() },
+        0x15 => branch(5, 1, i, values),
+        0x25 => branch(5, 2, i, values),
+        0x35 => branch(5, 3, i, values),
+        0x45 => branch(5, 4, i, values),
+        0x55 => branch(5, 5, i, values),
+        0xa5 => branch(5, 10, i, values),
+        0xb5 => branch(5, 11, i, values),
+        0x16 => branch(6, 1, i, values),
+        0x26 => branch(6, 2, i, values),
+        0x36 => branch(6, 3, i, values),
+        0x46 => branch(6, 4, i, values),
+        0x56 => branch(6, 5, i, values),
+        0xa6 => branch(6, 10, i, values),
+        0xb6 => branch(6, 11, i, values),
+        0x2d => branch_reg(2, i, values),
         0x95 => leave(values),
-        _ => leave(values),
+        _ => unreachable!(),
     }
 }
 
 // The registers after it.
-fn write_back(a: Act, values: &mut [u64])
-    requires { (length values.old ≡ 7) × Low a }
+#[tactic(auto, unfolding(crate::specs::Sure::values_after))]
+fn write_back(a: Act, values: &mut [u64; 7])
+    requires { Low a }
     ensures { values.new ≡ values_after a values.old }
 {
-    match a {
-        Act::Writes { dst, value } => write(values, dst, value),
-        Act::Jumps { off: _ } => {}
-        Act::Falls => {}
-        Act::Halts { stop: _, r0: _ } => {}
+    if let Act::Writes { dst, value } = a {
+        values[dst as usize] = value;
     }
 }
 
@@ -265,16 +185,15 @@ pub fn run_sure(program: &[u8], frame: &[u8]) -> u64
     requires { (run_of program.now frame.now 0 (length program.now / 8)).stop ≡ 0 }
     ensures { result ≡ (run_of program.now frame.now 0 (length program.now / 8)).r0 }
 {
-    let mut values = [0u64; 7];
-    let mut pc: u64 = 0;
+    let mut values = [0; 7];
+    let mut pc = 0;
+    // `n` stays: it is what shows that the loop ends. A `for` would ask for an answer behind its last turn, which no run reaches.
     let mut n: u64 = 0;
     loop {
-        let a = act_of(program, (pc * 8) as usize, frame, &values);
-        match step::status_of(a) {
-            Status::Going => {}
-            Status::Halted { stop: _, r0 } => {
-                return r0;
-            }
+        let at = (pc * 8) as usize;
+        let a = act_of(Place { program, at }, frame, &values);
+        if let Some(halt) = step::halt_of(a) {
+            return halt.r0;
         }
         write_back(a, &mut values);
         pc = step::place_after(a, pc);

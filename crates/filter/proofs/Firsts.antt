@@ -8,6 +8,8 @@ use native.Mathlib.Omega.{arith}
 use native.Mathlib.Numerals.{add-one}
 use borrow.Author.Tests.{ltb-true, ltb-false}
 use lib.Dec.{ltb}
+use Rattle.std.specs.Prelude.{Option, Some, None, MatchOption}
+use Rattle.std.specs.Option.{unwrap_or}
 use Rattle.filter.specs.First.{first, any}
 
 pub suc_of : (i n : ℕ) → i < n → n - i ≡ suc (n - (i + 1))
@@ -30,19 +32,6 @@ first_stop f n i h e = rw (suc_of i n h, e)
 pub first_more : (f : ℕ → Bool) (n i : ℕ) → i < n → f i ≡ false → first f (n - i) i ≡ first f (n - (i + 1)) (i + 1)
 unfolding first
 first_more f n i h e = rw (suc_of i n h, add-one i, e)
-
--- k numbers that do not, at once
-pub first_skip : (f : ℕ → Bool) (k m j : ℕ) → ((i : ℕ) → i < k → f (j + i) ≡ false) → first f (k + m) j ≡ first f m (j + k)
-unfolding first
-first_skip f zero m j h =
-    let z : 0 + m ≡ m = omega arith in
-    let y : j + 0 ≡ j = omega arith in
-    rw (z, y)
-first_skip f (suc k) m j h =
-    let z : suc k + m ≡ suc (k + m) = omega arith in
-    let y : j + suc k ≡ suc j + k = omega arith in
-    let here : f j ≡ false = (let o : j + 0 ≡ j = omega arith in rw o at (h 0 (omega arith))) in
-    rw (z, y, here) (first_skip f k m (suc j) (λ i l. (let e : j + suc i ≡ suc j + i = omega arith in rw e at (h (suc i) (omega arith)))))
 
 pub any_all : (f : ℕ → Bool) (n from : ℕ) → any f n from ≡ any f (n - 0) (from + 0)
 any_all f n from =
@@ -132,3 +121,13 @@ first_is f n x h below here =
     absurd (true≢false (sym t ∙ u)))
     (eq-or-lt_of_le k))
     (below_or_not (first f n 0) x)
+
+pub first_nothing : (f : ℕ → Bool) (n : ℕ) → ((j : ℕ) → j < n → f j ≡ false) → first f n 0 ≡ n
+first_nothing f n none = first_is f n n (omega arith) none (λ k. absurd (omega arith))
+
+-- `find` over the numbers below n, and n where it finds none (`first_from_Range`, std)
+pub first_found : (f : ℕ → Bool) (n : ℕ) (r : Option ℕ)
+    → MatchOption r ((k : ℕ) → 0 ≤ k → k < n → f k ≡ false) (λ i. (0 ≤ i) × (i < n) × (f i ≡ true) × ((k : ℕ) → 0 ≤ k → k < i → f k ≡ false))
+    → unwrap_or r n ≡ first f n 0
+first_found f n None h = sym (first_nothing f n (λ j k. h j (omega arith) k))
+first_found f n (Some i) h = sym (first_is f n i (omega (arith, h.1)) (λ j k. h.3 j (omega arith) k) (λ k. h.2))

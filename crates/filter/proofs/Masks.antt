@@ -5,13 +5,6 @@ use native.Mathlib.Omega.{arith}
 use lib.Pow.{pow_mono, pow_pos}
 use Rattle.filter.specs.Prefix.{prefix_mask}
 
--- A number that is not the lowest left is above it.
-pub above : (k n : ℕ) → k ≤ n → (n ≡ k → ⊥) → k + 1 ≤ n
-above k n l ne = omega (arith, l, ne)
-
-pub last : (n : ℕ) → n ≤ 16 → 16 ≤ n → n ≡ 16
-last n h g = omega (arith, h, g)
-
 pub few : (bits : ℕ) → 2 ^ (16 - bits) ≤ 65536
 few bits = let h : 16 - bits ≤ 16 = omega arith in pow_mono h
 

@@ -14,29 +14,35 @@ net_offset = by_result _ (λ κs a ws ws'. refl)
 pub has_macs : Unique crate.ast.LinkType.has_macs.ended (λ M 𝓤 𝓛. crate.ast.LinkType.has_macs.clauses 𝓛)
 has_macs = by_result _ (λ κs a ws ws'. refl)
 
-pub link_of : Unique crate.ast.link_of.ended (λ M 𝓤 𝓛. crate.ast.link_of.clauses 𝓛)
-link_of = by_result _ (λ κs a ws ws'. refl)
+pub ast-LinkTypeFromU8-from : Unique crate.ast.LinkTypeFromU8.from.ended (λ M 𝓤 𝓛. crate.ast.LinkTypeFromU8.from.clauses 𝓛)
+ast-LinkTypeFromU8-from = by_result _ (λ κs a ws ws'. refl)
 
-pub dir_of : Unique crate.ast.dir_of.ended (λ M 𝓤 𝓛. crate.ast.dir_of.clauses 𝓛)
-dir_of = by_result _ (λ κs a ws ws'. refl)
+pub ast-DirFromU8-from : Unique crate.ast.DirFromU8.from.ended (λ M 𝓤 𝓛. crate.ast.DirFromU8.from.clauses 𝓛)
+ast-DirFromU8-from = by_result _ (λ κs a ws ws'. refl)
 
-pub proto_of : Unique crate.ast.proto_of.ended (λ M 𝓤 𝓛. crate.ast.proto_of.clauses 𝓛)
-proto_of = by_result _ (λ κs a ws ws'. refl)
+pub of : Unique crate.ast.Proto.of.ended (λ M 𝓤 𝓛. crate.ast.Proto.of.clauses 𝓛)
+of = by_result _ (λ κs a ws ws'. refl)
 
-pub maybe_proto_of : Unique crate.ast.maybe_proto_of.ended (λ M 𝓤 𝓛. crate.ast.maybe_proto_of.clauses 𝓛)
-maybe_proto_of = by_result _ (λ κs a ws ws'. refl)
+pub maybe_of : Unique crate.ast.Proto.maybe_of.ended (λ M 𝓤 𝓛. crate.ast.Proto.maybe_of.clauses 𝓛)
+maybe_of = by_result _ (λ κs a ws ws'. refl)
 
-pub arith_of : Unique crate.ast.arith_of.ended (λ M 𝓤 𝓛. crate.ast.arith_of.clauses 𝓛)
-arith_of = by_result _ (λ κs a ws ws'. refl)
+pub ast-ArithOpFromU8-from : Unique crate.ast.ArithOpFromU8.from.ended (λ M 𝓤 𝓛. crate.ast.ArithOpFromU8.from.clauses 𝓛)
+ast-ArithOpFromU8-from = by_result _ (λ κs a ws ws'. refl)
 
-pub cmp_of : Unique crate.ast.cmp_of.ended (λ M 𝓤 𝓛. crate.ast.cmp_of.clauses 𝓛)
-cmp_of = by_result _ (λ κs a ws ws'. refl)
+pub ast-CmpOpFromU8-from : Unique crate.ast.CmpOpFromU8.from.ended (λ M 𝓤 𝓛. crate.ast.CmpOpFromU8.from.clauses 𝓛)
+ast-CmpOpFromU8-from = by_result _ (λ κs a ws ws'. refl)
 
-pub layer_of : Unique crate.ast.layer_of.ended (λ M 𝓤 𝓛. crate.ast.layer_of.clauses 𝓛)
-layer_of = by_result _ (λ κs a ws ws'. refl)
+pub ast-LayerFromU8-from : Unique crate.ast.LayerFromU8.from.ended (λ M 𝓤 𝓛. crate.ast.LayerFromU8.from.clauses 𝓛)
+ast-LayerFromU8-from = by_result _ (λ κs a ws ws'. refl)
 
-pub access_size_of : Unique crate.ast.access_size_of.ended (λ M 𝓤 𝓛. crate.ast.access_size_of.clauses 𝓛)
-access_size_of = by_result _ (λ κs a ws ws'. refl)
+pub ast-AccessSizeFromU8-from : Unique crate.ast.AccessSizeFromU8.from.ended (λ M 𝓤 𝓛. crate.ast.AccessSizeFromU8.from.clauses 𝓛)
+ast-AccessSizeFromU8-from = by_result _ (λ κs a ws ws'. refl)
+
+pub bytes : Unique crate.ast.AccessSize.bytes.ended (λ M 𝓤 𝓛. crate.ast.AccessSize.bytes.clauses 𝓛)
+bytes = by_result _ (λ κs a ws ws'. refl)
+
+pub segment : Unique crate.ast.Ipv6Addr.segment.ended (λ M 𝓤 𝓛. crate.ast.Ipv6Addr.segment.clauses 𝓛)
+segment = by_result _ (λ κs a ws ws'. refl)
 
 pub count_at : Unique crate.bytes.count_at.ended (λ M 𝓤 𝓛. crate.bytes.count_at.clauses 𝓛)
 count_at = by_result _ (λ κs a ws ws'. refl)
@@ -50,23 +56,23 @@ step_code = by_result _ (λ κs a ws ws'. refl)
 pub step_operand : Unique crate.bytes.step_operand.ended (λ M 𝓤 𝓛. crate.bytes.step_operand.clauses 𝓛)
 step_operand = by_result _ (λ κs a ws ws'. refl)
 
-pub record_kind : Unique crate.bytes.record_kind.ended (λ M 𝓤 𝓛. crate.bytes.record_kind.clauses 𝓛)
-record_kind = by_result _ (λ κs a ws ws'. refl)
+pub kind : Unique crate.bytes.Record.kind.ended (λ M 𝓤 𝓛. crate.bytes.Record.kind.clauses 𝓛)
+kind = by_result _ (λ κs a ws ws'. refl)
 
-pub record_byte : Unique crate.bytes.record_byte.ended (λ M 𝓤 𝓛. crate.bytes.record_byte.clauses 𝓛)
-record_byte = by_result _ (λ κs a ws ws'. refl)
+pub byte : Unique crate.bytes.Record.byte.ended (λ M 𝓤 𝓛. crate.bytes.Record.byte.clauses 𝓛)
+byte = by_result _ (λ κs a ws ws'. refl)
 
-pub record_half : Unique crate.bytes.record_half.ended (λ M 𝓤 𝓛. crate.bytes.record_half.clauses 𝓛)
-record_half = by_result _ (λ κs a ws ws'. refl)
+pub half : Unique crate.bytes.Record.half.ended (λ M 𝓤 𝓛. crate.bytes.Record.half.clauses 𝓛)
+half = by_result _ (λ κs a ws ws'. refl)
 
-pub record_word : Unique crate.bytes.record_word.ended (λ M 𝓤 𝓛. crate.bytes.record_word.clauses 𝓛)
-record_word = by_result _ (λ κs a ws ws'. refl)
+pub word : Unique crate.bytes.Record.word.ended (λ M 𝓤 𝓛. crate.bytes.Record.word.clauses 𝓛)
+word = by_result _ (λ κs a ws ws'. refl)
 
-pub record_mac : Unique crate.bytes.record_mac.ended (λ M 𝓤 𝓛. crate.bytes.record_mac.clauses 𝓛)
-record_mac = by_result _ (λ κs a ws ws'. refl)
+pub mac : Unique crate.bytes.Record.mac.ended (λ M 𝓤 𝓛. crate.bytes.Record.mac.clauses 𝓛)
+mac = by_result _ (λ κs a ws ws'. refl)
 
-pub record_long : Unique crate.bytes.record_long.ended (λ M 𝓤 𝓛. crate.bytes.record_long.clauses 𝓛)
-record_long = by_result _ (λ κs a ws ws'. refl)
+pub long : Unique crate.bytes.Record.long.ended (λ M 𝓤 𝓛. crate.bytes.Record.long.clauses 𝓛)
+long = by_result _ (λ κs a ws ws'. refl)
 
 pub access_at : Unique crate.record.access_at.ended (λ M 𝓤 𝓛. crate.record.access_at.clauses 𝓛)
 access_at = by_result _ (λ κs a ws ws'. refl)

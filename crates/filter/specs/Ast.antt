@@ -1,5 +1,5 @@
 -- The codes of the sheet, each in its type's order. A code past the last stands for the last, so that every record can be read.
-use Rattle.std.specs.Prelude.{ℕ, Bool, true, false, Option, Some, None, cond, eqb}
+use Rattle.std.specs.Prelude.{ℕ, ◌-◌, ◌*◌, ◌/◌, ◌%◌, ◌^◌, Bool, true, false, Option, Some, None, cond, eqb, ltb}
 use Rattle.filter.specs.declared.ast.Dir.{Dir}
 use Rattle.filter.specs.declared.ast.Dir.TheVariants.{SrcOrDst, Src, Dst, SrcAndDst}
 use Rattle.filter.specs.declared.ast.Proto.{Proto}
@@ -15,6 +15,7 @@ use Rattle.filter.specs.declared.ast.Layer.TheVariants.{Raw, Net, Trans}
 use Rattle.filter.specs.declared.ast.LinkType.{LinkType}
 use Rattle.filter.specs.declared.ast.LinkType.TheVariants.{Ethernet, RawIp, LinuxSll}
 use Rattle.filter.specs.declared.ast.Link.{Link}
+use Rattle.filter.specs.declared.ast.Ipv6Addr.{Ipv6Addr}
 
 -- "Link 0, Ethernet", "Link 1, RawIp", "Link 2 is new"
 unfoldable pub link_of : ℕ → LinkType
@@ -93,3 +94,13 @@ layer_of b = cond (eqb b 0) Raw (cond (eqb b 1) Net Trans)
 -- "q size", 0 to 2
 unfoldable pub access_size_of : ℕ → AccessSize
 access_size_of b = cond (eqb b 0) Byte (cond (eqb b 1) Half Word)
+
+-- how many bytes a load of a size reads
+unfoldable pub bytes_of : AccessSize → ℕ
+bytes_of Byte = 1
+bytes_of Half = 2
+bytes_of Word = 4
+
+-- `addr.segments()`: segment i of an address, from 0 to 7, 16 bits
+unfoldable pub segment_of : Ipv6Addr → ℕ → ℕ
+segment_of addr i = cond (ltb i 4) (addr.hi / 2 ^ (16 * (3 - i)) % 65536) (addr.lo / 2 ^ (16 * (7 - i)) % 65536)

@@ -1,8 +1,8 @@
 // The types of ast.rs by value; an address is whole numbers.
-#![tactic(auto, unfolding(crate::specs::Ast::link_record, crate::specs::Ast::ether_proto_offset, crate::specs::Ast::net_offset, crate::specs::Ast::has_macs, crate::specs::Ast::link_of, crate::specs::Ast::dir_of, crate::specs::Ast::proto_of, crate::specs::Ast::maybe_proto_of, crate::specs::Ast::arith_of, crate::specs::Ast::cmp_of, crate::specs::Ast::layer_of, crate::specs::Ast::access_size_of))]
+#![tactic(auto, unfolding(crate::specs::Ast::link_record, crate::specs::Ast::ether_proto_offset, crate::specs::Ast::net_offset, crate::specs::Ast::has_macs, crate::specs::Ast::link_of, crate::specs::Ast::dir_of, crate::specs::Ast::proto_of, crate::specs::Ast::maybe_proto_of, crate::specs::Ast::arith_of, crate::specs::Ast::cmp_of, crate::specs::Ast::layer_of, crate::specs::Ast::access_size_of, crate::specs::Ast::bytes_of, crate::specs::Ast::segment_of))]
 
 ghost use Rattle.std.specs.Prelude.{◌≡◌};
-ghost use Rattle.filter.specs.Ast.{dir_of, cmp_of, arith_of, layer_of, access_size_of, proto_of, maybe_proto_of, link_of, link_record, ether_proto_offset, net_offset, has_macs};
+ghost use Rattle.filter.specs.Ast.{dir_of, cmp_of, arith_of, layer_of, access_size_of, proto_of, maybe_proto_of, link_of, link_record, ether_proto_offset, net_offset, has_macs, bytes_of, segment_of};
 
 // Which address or port is tested.
 #[derive(Clone, Copy, PartialEq, Eq)]
@@ -242,99 +242,141 @@ impl LinkType {
     }
 }
 
-pub fn link_of(b: u8) -> LinkType
-    ensures { result ≡ link_of b }
-{
-    match b {
-        0 => LinkType::Ethernet,
-        1 => LinkType::RawIp,
-        _ => LinkType::LinuxSll,
+impl From<u8> for LinkType {
+    ghost from_gives = { λ b r. r ≡ link_of b };
+
+    fn from(b: u8) -> LinkType {
+        match b {
+            0 => LinkType::Ethernet,
+            1 => LinkType::RawIp,
+            _ => LinkType::LinuxSll,
+        }
     }
 }
 
-pub fn dir_of(b: u8) -> Dir
-    ensures { result ≡ dir_of b }
-{
-    match b {
-        0 => Dir::SrcOrDst,
-        1 => Dir::Src,
-        2 => Dir::Dst,
-        _ => Dir::SrcAndDst,
+impl From<u8> for Dir {
+    ghost from_gives = { λ b r. r ≡ dir_of b };
+
+    fn from(b: u8) -> Dir {
+        match b {
+            0 => Dir::SrcOrDst,
+            1 => Dir::Src,
+            2 => Dir::Dst,
+            _ => Dir::SrcAndDst,
+        }
     }
 }
 
-pub fn proto_of(p: u8, q: u8) -> Proto
-    ensures { result ≡ proto_of p q }
-{
-    match p {
-        1 => Proto::Ip,
-        2 => Proto::Ip6,
-        3 => Proto::Arp,
-        4 => Proto::Rarp,
-        5 => Proto::Tcp,
-        6 => Proto::Udp,
-        7 => Proto::Icmp,
-        8 => Proto::Icmp6,
-        9 => Proto::Igmp,
-        10 => Proto::Sctp,
-        11 => Proto::Num(q),
-        _ => Proto::Ip6Proto(q),
+impl Proto {
+    // The protocol of code p; q is the number of the last two.
+    pub fn of(p: u8, q: u8) -> Proto
+        ensures { result ≡ proto_of p q }
+    {
+        match p {
+            1 => Proto::Ip,
+            2 => Proto::Ip6,
+            3 => Proto::Arp,
+            4 => Proto::Rarp,
+            5 => Proto::Tcp,
+            6 => Proto::Udp,
+            7 => Proto::Icmp,
+            8 => Proto::Icmp6,
+            9 => Proto::Igmp,
+            10 => Proto::Sctp,
+            11 => Proto::Num(q),
+            _ => Proto::Ip6Proto(q),
+        }
+    }
+
+    // The same, where code 0 is none.
+    pub fn maybe_of(p: u8, q: u8) -> Option<Proto>
+        ensures { result ≡ maybe_proto_of p q }
+    {
+        if p == 0 { None } else { Some(Proto::of(p, q)) }
     }
 }
 
-pub fn maybe_proto_of(p: u8, q: u8) -> Option<Proto>
-    ensures { result ≡ maybe_proto_of p q }
-{
-    if p == 0 { None } else { Some(proto_of(p, q)) }
-}
+impl From<u8> for ArithOp {
+    ghost from_gives = { λ b r. r ≡ arith_of b };
 
-pub fn arith_of(b: u8) -> ArithOp
-    ensures { result ≡ arith_of b }
-{
-    match b {
-        0 => ArithOp::Add,
-        1 => ArithOp::Sub,
-        2 => ArithOp::Mul,
-        3 => ArithOp::Div,
-        4 => ArithOp::Mod,
-        5 => ArithOp::And,
-        6 => ArithOp::Or,
-        7 => ArithOp::Xor,
-        8 => ArithOp::Shl,
-        _ => ArithOp::Shr,
+    fn from(b: u8) -> ArithOp {
+        match b {
+            0 => ArithOp::Add,
+            1 => ArithOp::Sub,
+            2 => ArithOp::Mul,
+            3 => ArithOp::Div,
+            4 => ArithOp::Mod,
+            5 => ArithOp::And,
+            6 => ArithOp::Or,
+            7 => ArithOp::Xor,
+            8 => ArithOp::Shl,
+            _ => ArithOp::Shr,
+        }
     }
 }
 
-pub fn cmp_of(b: u8) -> CmpOp
-    ensures { result ≡ cmp_of b }
-{
-    match b {
-        0 => CmpOp::Eq,
-        1 => CmpOp::Ne,
-        2 => CmpOp::Lt,
-        3 => CmpOp::Le,
-        4 => CmpOp::Gt,
-        5 => CmpOp::Ge,
-        _ => CmpOp::BitAnd,
+impl From<u8> for CmpOp {
+    ghost from_gives = { λ b r. r ≡ cmp_of b };
+
+    fn from(b: u8) -> CmpOp {
+        match b {
+            0 => CmpOp::Eq,
+            1 => CmpOp::Ne,
+            2 => CmpOp::Lt,
+            3 => CmpOp::Le,
+            4 => CmpOp::Gt,
+            5 => CmpOp::Ge,
+            _ => CmpOp::BitAnd,
+        }
     }
 }
 
-pub fn layer_of(b: u8) -> Layer
-    ensures { result ≡ layer_of b }
-{
-    match b {
-        0 => Layer::Raw,
-        1 => Layer::Net,
-        _ => Layer::Trans,
+impl From<u8> for Layer {
+    ghost from_gives = { λ b r. r ≡ layer_of b };
+
+    fn from(b: u8) -> Layer {
+        match b {
+            0 => Layer::Raw,
+            1 => Layer::Net,
+            _ => Layer::Trans,
+        }
     }
 }
 
-pub fn access_size_of(b: u8) -> AccessSize
-    ensures { result ≡ access_size_of b }
-{
-    match b {
-        0 => AccessSize::Byte,
-        1 => AccessSize::Half,
-        _ => AccessSize::Word,
+impl From<u8> for AccessSize {
+    ghost from_gives = { λ b r. r ≡ access_size_of b };
+
+    fn from(b: u8) -> AccessSize {
+        match b {
+            0 => AccessSize::Byte,
+            1 => AccessSize::Half,
+            _ => AccessSize::Word,
+        }
+    }
+}
+
+impl AccessSize {
+    pub fn bytes(self) -> u8
+        ensures { result ≡ bytes_of self }
+    {
+        match self {
+            AccessSize::Byte => 1,
+            AccessSize::Half => 2,
+            AccessSize::Word => 4,
+        }
+    }
+}
+
+impl Ipv6Addr {
+    // `addr.segments()[i]`; past the last stands the last. One segment and no array of eight: a caller wants one at a time.
+    pub fn segment(self, i: u32) -> u16
+        ensures { result ≡ segment_of self i }
+    {
+        let from_here = if i < 4 {
+            self.hi >> (16 * (3 - i))
+        } else {
+            self.lo >> (16 * 7u32.saturating_sub(i))
+        };
+        (from_here % 65536) as u16
     }
 }

@@ -1,58 +1,29 @@
 // Big-endian numbers in a part of the sheet. A byte past the end is 0, so that no reader asks for a length.
 #![tactic(auto, unfolding(crate::specs::Bytes::be2, crate::specs::Bytes::be4, crate::specs::Bytes::be6, crate::specs::Bytes::be8))]
 
-ghost use Rattle.std.specs.Prelude.{◌≡◌, ◌+◌, ◌-◌, ◌*◌, ◌<◌, ◌^◌, get_or};
+ghost use Rattle.std.specs.Prelude.{◌≡◌, ◌+◌, ◌*◌, ◌<◌, ◌^◌, get_or};
 ghost use Rattle.filter.specs.Bytes.{be2, be4, be6, be8};
 
-fn byte(s: &[u8], p: usize) -> u8
+// A function for each width: they differ in the type that they answer and in the bytes that they read.
+pub(crate) fn byte(s: &[u8], p: usize) -> u8
     ensures { result ≡ get_or s.now p 0 }
 {
-    if p < s.len() { s[p] } else { 0 }
-}
-
-fn join16(a: u8, b: u8) -> u16
-    ensures { result ≡ a * 256 + b }
-{
-    (a as u16) * 256 + (b as u16)
-}
-
-fn join32(a: u16, b: u16) -> u32
-    ensures { result ≡ a * 65536 + b }
-{
-    (a as u32) * 65536 + (b as u32)
-}
-
-fn join48(a: u32, b: u16) -> u64
-    ensures { result ≡ a * 65536 + b }
-{
-    (a as u64) * 65536 + (b as u64)
-}
-
-fn join64(a: u32, b: u32) -> u64
-    ensures { result ≡ a * 4294967296 + b }
-{
-    (a as u64) * 4294967296 + (b as u64)
-}
-
-// Byte k of record i, whose records are 24 bytes long.
-fn place(i: u32, k: u8) -> usize
-    ensures { (result ≡ 24 * i + k) × (result < 2 ^ 38) }
-{
-    24 * (i as usize) + (k as usize)
+    s.get(p).copied().unwrap_or(0)
 }
 
 fn half(s: &[u8], p: usize) -> u16
     requires { p < 2 ^ 40 }
     ensures { result ≡ be2 s.now p }
 {
-    join16(byte(s, p), byte(s, p + 1))
+    u16::from(byte(s, p)) * 256 + u16::from(byte(s, p + 1))
 }
 
+// By halves, as the definition has it: `from_be_bytes` of bytes that are read one by one costs 7% more on a chain of steps.
 fn word(s: &[u8], p: usize) -> u32
     requires { p < 2 ^ 39 }
     ensures { result ≡ be4 s.now p }
 {
-    join32(half(s, p), half(s, p + 2))
+    u32::from(half(s, p)) * 65536 + u32::from(half(s, p + 2))
 }
 
 pub fn count_at(s: &[u8], p: u32) -> u16
@@ -71,51 +42,69 @@ pub fn token_at(s: &[u8], p: u32) -> u8
 pub fn step_code(s: &[u8], from: u32, k: u16) -> u8
     ensures { result ≡ get_or s.now (5 * (from + k)) 0 }
 {
-    byte(s, 5 * ((from as usize) + (k as usize)))
+    byte(s, 5 * (from as usize + usize::from(k)))
 }
 
 pub fn step_operand(s: &[u8], from: u32, k: u16) -> u32
     ensures { result ≡ be4 s.now (5 * (from + k) + 1) }
 {
-    word(s, 5 * ((from as usize) + (k as usize)) + 1)
+    word(s, 5 * (from as usize + usize::from(k)) + 1)
 }
 
-pub fn record_kind(s: &[u8], i: u32) -> u8
-    ensures { result ≡ get_or s.now (24 * i) 0 }
-{
-    byte(s, 24 * (i as usize))
+// Record i of the primitives, whose records are 24 bytes long.
+#[derive(Clone, Copy)]
+pub struct Record<'a> {
+    pub part: &'a [u8],
+    pub i: u32,
 }
 
-pub fn record_byte(s: &[u8], i: u32, k: u8) -> u8
-    ensures { result ≡ get_or s.now (24 * i + k) 0 }
-{
-    byte(s, place(i, k))
-}
+// A reader for each size: each answers a type of its own, as wide as the number.
+impl Record<'_> {
+    // Where byte k of the record stands.
+    fn place(self, k: u8) -> usize
+        ensures { (result ≡ 24 * self.entry.i + k) × (result < 2 ^ 38) }
+    {
+        24 * self.i as usize + usize::from(k)
+    }
 
-pub fn record_half(s: &[u8], i: u32, k: u8) -> u16
-    ensures { result ≡ be2 s.now (24 * i + k) }
-{
-    half(s, place(i, k))
-}
+    pub fn kind(self) -> u8
+        ensures { result ≡ get_or self.entry.part.now (24 * self.entry.i) 0 }
+    {
+        byte(self.part, 24 * self.i as usize)
+    }
 
-pub fn record_word(s: &[u8], i: u32, k: u8) -> u32
-    ensures { result ≡ be4 s.now (24 * i + k) }
-{
-    word(s, place(i, k))
-}
+    // Each width keeps its name, for docs/PROMISES.md has a theorem of each.
+    pub fn byte(self, k: u8) -> u8
+        ensures { result ≡ get_or self.entry.part.now (24 * self.entry.i + k) 0 }
+    {
+        byte(self.part, self.place(k))
+    }
 
-// A MAC address, six bytes.
-pub fn record_mac(s: &[u8], i: u32, k: u8) -> u64
-    ensures { result ≡ be6 s.now (24 * i + k) }
-{
-    let p = place(i, k);
-    join48(word(s, p), half(s, p + 4))
-}
+    pub fn half(self, k: u8) -> u16
+        ensures { result ≡ be2 self.entry.part.now (24 * self.entry.i + k) }
+    {
+        half(self.part, self.place(k))
+    }
 
-// Half of an IPv6 address, eight bytes.
-pub fn record_long(s: &[u8], i: u32, k: u8) -> u64
-    ensures { result ≡ be8 s.now (24 * i + k) }
-{
-    let p = place(i, k);
-    join64(word(s, p), word(s, p + 4))
+    pub fn word(self, k: u8) -> u32
+        ensures { result ≡ be4 self.entry.part.now (24 * self.entry.i + k) }
+    {
+        word(self.part, self.place(k))
+    }
+
+    // A MAC address, six bytes.
+    pub fn mac(self, k: u8) -> u64
+        ensures { result ≡ be6 self.entry.part.now (24 * self.entry.i + k) }
+    {
+        let p = self.place(k);
+        u64::from(word(self.part, p)) * 65536 + u64::from(half(self.part, p + 4))
+    }
+
+    // Half of an IPv6 address, eight bytes.
+    pub fn long(self, k: u8) -> u64
+        ensures { result ≡ be8 self.entry.part.now (24 * self.entry.i + k) }
+    {
+        let p = self.place(k);
+        u64::from(word(self.part, p)) * 4294967296 + u64::from(word(self.part, p + 4))
+    }
 }

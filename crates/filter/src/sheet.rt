@@ -27,20 +27,16 @@ pub fn find_sections(sheet: &[u8]) -> Option<Counts>
     ensures { result ≡ sections_of sheet.now }
 {
     let steps = count_at(sheet, 0);
-    let a = 5 * (steps as u32);
+    let a = 5 * u32::from(steps);
     let prims = count_at(sheet, a + 2);
-    let b = a + 24 * (prims as u32);
+    let b = a + 24 * u32::from(prims);
     let tokens = count_at(sheet, b + 4);
-    let asked = b + (tokens as u32) + 6;
-    if sheet.len() == asked as usize {
-        Some(Counts {
-            steps,
-            prims,
-            tokens,
-        })
-    } else {
-        None
-    }
+    let asked = b + u32::from(tokens) + 6;
+    (sheet.len() == asked as usize).then_some(Counts {
+        steps,
+        prims,
+        tokens,
+    })
 }
 
 // The bytes from one place up to another, as far as there are any.

@@ -10,15 +10,22 @@ use Rattle.ebpf.specs.Run.{run_of}
 use Rattle.ebpf.specs.declared.run.Outcome.{Outcome}
 use Rattle.program.specs.Ends.{Frame}
 use Rattle.generator.specs.Compile.{outcome_of, answer_of, output_after}
-use Rattle.generator.specs.declared.Compiled.{Compiled}
-use Rattle.generator.specs.declared.Compiled.TheVariants.{Program}
+use Rattle.refusals.specs.Refusal.{Answer}
+use Rattle.refusals.specs.Refusal.Answer.{Given}
 use Rattle.sound.specs.Demand.{Bytes, sheet_holds}
 use Rattle.sound.proofs.Accepted.{accepted}
 use Rattle.sound.proofs.Demand3.{passes_exactly}
-use Rattle.gateway.specs.Judge.{judged_of}
-use Rattle.gateway.specs.declared.Judged.TheVariants.{Long, Pass, Drop}
+use Rattle.std.specs.Prelude.{Result, Ok, Err}
+use Rattle.refusals.specs.Refusal.{number_of}
+use Rattle.refusals.proofs.Numbers.{one_reason}
+use Rattle.gateway.specs.declared.Verdict.{Verdict}
+use Rattle.gateway.specs.declared.Verdict.TheVariants as verdict
+use Rattle.gateway.specs.declared.Unjudged.{Unjudged}
+use Rattle.gateway.specs.declared.Unjudged.TheVariants as unjudged
+use Rattle.gateway.specs.Judge.{judged, judged_of}
+use Rattle.gateway.specs.Judge.Judged.{Long, Pass, Drop}
 
-module _ (s : List ℕ) (link : ℕ) (out : List ℕ) (work l : ℕ) (byte : Bytes s) (e : answer_of (outcome_of s link 1 (length out) work) ≡ Program l) where
+module _ (s : List ℕ) (link : ℕ) (out : List ℕ) (work l : ℕ) (byte : Bytes s) (e : answer_of (outcome_of s link 1 (length out) work) ≡ Given l) where
   pub room : 8 * l ≤ length out
   room = (accepted s link 1 work l out byte e).room
 
@@ -29,7 +36,7 @@ module _ (s : List ℕ) (link : ℕ) (out : List ℕ) (work l : ℕ) (byte : Byt
       let w : Frame frame 0 = record { byte = byte'; low = omega arith } in
       rw is (passes_exactly s link 1 work l out byte e w (λ never. absurd (omega arith))).gives
 
-module _ (x : Compiled) (l size : ℕ) (holds : Bool) (e : x ≡ Program l) where
+module _ (x : Answer ℕ) (l size : ℕ) (holds : Bool) (e : x ≡ Given l) where
   pub too_long : 2 ^ 32 ≤ size → Long ≡ judged_of x size holds
   unfolding judged_of
   too_long h = rw (e, le-ltb size (2 ^ 32) h) refl
@@ -50,3 +57,26 @@ module _ (x : Compiled) (l size : ℕ) (holds : Bool) (e : x ≡ Program l) wher
         go : (t : Bool) → r0 ≡ cond t 2 1 → Drop ≡ cond t Pass Drop
         go true q = absurd (h q)
         go false q = refl
+
+-- A result is determined by what it says.
+pub one_judged : (x y : Result Verdict Unjudged) → judged x ≡ judged y → x ≡ y
+one_judged (Ok verdict.Pass) (Ok verdict.Pass) e = refl
+one_judged (Ok verdict.Pass) (Ok verdict.Drop) e = cc
+one_judged (Ok verdict.Drop) (Ok verdict.Pass) e = cc
+one_judged (Ok verdict.Drop) (Ok verdict.Drop) e = refl
+one_judged (Ok verdict.Pass) (Err (unjudged.Refused r)) e = cc
+one_judged (Ok verdict.Drop) (Err (unjudged.Refused r)) e = cc
+one_judged (Ok verdict.Pass) (Err unjudged.Long) e = cc
+one_judged (Ok verdict.Drop) (Err unjudged.Long) e = cc
+one_judged (Err (unjudged.Refused r)) (Ok verdict.Pass) e = cc
+one_judged (Err (unjudged.Refused r)) (Ok verdict.Drop) e = cc
+one_judged (Err unjudged.Long) (Ok verdict.Pass) e = cc
+one_judged (Err unjudged.Long) (Ok verdict.Drop) e = cc
+one_judged (Err unjudged.Long) (Err unjudged.Long) e = refl
+one_judged (Err unjudged.Long) (Err (unjudged.Refused r)) e = cc
+one_judged (Err (unjudged.Refused r)) (Err unjudged.Long) e = cc
+one_judged (Err (unjudged.Refused r)) (Err (unjudged.Refused s)) e =
+    let n : number_of r.reason ≡ number_of s.reason = cc in
+    let p : r.place ≡ s.place = cc in
+    let q : r.reason ≡ s.reason = one_reason r.reason s.reason n in
+    λ i. Err (unjudged.Refused (record { reason = q i; place = p i }))

@@ -11,11 +11,11 @@ use Rattle.ebpf.specs.Insn.{new, to_le_bytes, insn_at, alu64_reg, alu64_imm, alu
 use Rattle.ebpf.specs.Opcode.{ADD, AND, MOV, JMP, JNE, JGT, WORD, HALF}
 use Rattle.ebpf.specs.Regs.{fresh, known_of, value_of, with_of}
 use Rattle.ebpf.specs.Run.{first_state, ended_of, go_of, run_of}
-use Rattle.ebpf.specs.Step.{le_at, context_act, frame_act, load_act, readable, reg64_act, imm64_act, imm32_act, swap_act, branch_act, branch_reg_act, exit_act, act_of, act_at, regs_after, place_after, status_of, turn_of, step_of}
+use Rattle.ebpf.specs.Step.{le_at, context_act, frame_act, load_act, readable, reg64_act, imm64_act, imm32_act, swap_act, branch_act, branch_reg_act, exit_act, act_of, act_at, regs_after, place_after, halt_of, turn_of, step_of}
 use Rattle.ebpf.specs.declared.insn.Insn.{Insn}
 use Rattle.ebpf.proofs.Examples.{k2_insns, k2}
 use Rattle.program.specs.Program.{code_of}
-use Rattle.filter.specs.Ast.{link_of, link_record, ether_proto_offset, net_offset, dir_of, cmp_of, arith_of, layer_of, access_size_of, proto_of, maybe_proto_of}
+use Rattle.filter.specs.Ast.{link_of, link_record, ether_proto_offset, net_offset, dir_of, cmp_of, arith_of, layer_of, access_size_of, proto_of, maybe_proto_of, bytes_of, segment_of}
 use Rattle.filter.specs.Bytes.{be2, be4, be8}
 use Rattle.filter.specs.First.{first, any}
 use Rattle.filter.specs.Record.{ipv6_at, ipv6_net_at, rhs_at, access_at, dir_at, proto_at, host_at, port_at, net6_at, decode_at, step_at}
@@ -34,9 +34,9 @@ use Rattle.checks.specs.Refusal.{unless_ether, ether_refusal, proto_refusal, por
 use Rattle.meaning.specs.Frame.{there, number, passes}
 use Rattle.meaning.specs.Meaning as M
 use Rattle.meaning.specs.Evaluate.{primitive_holds, expression_holds}
-use Rattle.pieces.specs.Fragments.{sides, guard, load, size_bytes, end_of, emit_load, emit_steps, transport, class_of, fails, skips, succeeds, check, emit_cmp, emit_ethertype}
+use Rattle.pieces.specs.Fragments.{sides, guard, load, end_of, emit_load, emit_steps, transport, class_of, fails, skips, succeeds, check, emit_cmp, emit_ethertype}
 use Rattle.filter.specs.Prefix.{prefix_mask}
-use Rattle.codegen.specs.Primitives.{segment, check_word_at, check_addr4, emit_host4, check_segment, check_net6, emit_net6, emit_l4_proto_check, prereqs_v4, emit_port_prereqs, check_port, check_ports, emit_port, emit_proto, steps_and_cmp, access_at_code, emit_byte_access, emit_primitive}
+use Rattle.codegen.specs.Primitives.{check_word_at, check_addr4, emit_host4, check_segment, check_net6, emit_net6, emit_l4_proto_check, prereqs_v4, emit_port_prereqs, check_port, check_ports, emit_port, emit_proto, steps_and_cmp, access_at_code, emit_byte_access, emit_primitive}
 use Rattle.patches.specs.Chain.{reach}
 use Rattle.patches.specs.Code.{successes, failures}
 use Rattle.patches.specs.Code.Slot.{fixed}
@@ -46,7 +46,7 @@ use Rattle.patches.specs.Whole.{prologue, epilogue}
 use Rattle.generator.specs.Template.{template_of, template}
 use Rattle.generator.specs.Compile.{Outcome, outcome, outcome_of, answer_of, output_after}
 use Rattle.generator.specs.Compile.Outcome.{early, late}
-use Rattle.generator.specs.declared.Compiled.TheVariants.{Program}
+use Rattle.refusals.specs.Refusal.Answer.{Given}
 use Rattle.sound.specs.Demand.{sheet_holds}
 
 -- A number's four bytes, the first one highest.
@@ -150,7 +150,7 @@ k3_insns =
 abbrev pub Table : Type 0
 Table =
     -- K1: "RawIp `ip`: L 6."
-    (answer_of (made ip_sheet 1 0) ≡ Program 6)
+    (answer_of (made ip_sheet 1 0) ≡ Given 6)
     -- K2: "Ethernet `ip`: L 12, listing below."
     × (made ip_sheet 0 0 ≡ late 12 1 (made_l k2_insns))
     × ((out : List ℕ) → output_after (made ip_sheet 0 0) out ≡ k2 ++ drop 96 out)
@@ -158,17 +158,17 @@ Table =
     × (prefix_mask 1 ≡ 0x8000)
     × (M.half_mask 17 1 ≡ 0x8000)
     × ((mode : ℕ) (link : LinkType) (addr : Ipv6Addr) (at : ℕ) → check_segment mode link addr 17 at 1
-    ≡ emit_load Half (at + 2) ++ (fixed (alu32_imm AND 4 0x8000) ∷ fails mode JNE (bit_and (segment addr 1) 0x8000)))
+    ≡ emit_load Half (at + 2) ++ (fixed (alu32_imm AND 4 0x8000) ∷ fails mode JNE (bit_and (segment_of addr 1) 0x8000)))
     × (made (net6_sheet 17) 0 0 ≡ late 25 1 (made_l k3_insns))
     × Passes (net6_sheet 17) 0 (sent6 (0x20 ∷ 0x01 ∷ 0xff ∷ 0xff ∷ []))
     × Drops (net6_sheet 17) 0 (sent6 (0x20 ∷ 0x01 ∷ 0x7f ∷ 0xff ∷ []))
     -- K4: "prefix 0: no address byte."
     × ((mode : ℕ) (link : LinkType) (addr : Ipv6Addr) (at : ℕ) → check_net6 mode link addr 0 at 8 0 ≡ [])
-    × (answer_of (made (net6_sheet 0) 0 0) ≡ Program 12)
+    × (answer_of (made (net6_sheet 0) 0 0) ≡ Given 12)
     × (made (net6_sheet 0) 0 0 ≡ made ip6_sheet 0 0)
     × Passes (net6_sheet 0) 0 (frame 0x86 0xdd 0 [])
     -- K5: "Ethernet `host 10.0.0.1`, either: L 24; a 30 byte frame with that source passes, its first 29 bytes drop; under Not they pass."
-    × (answer_of (made (one host) 0 0) ≡ Program 24)
+    × (answer_of (made (one host) 0 0) ≡ Given 24)
     × (length (sent ten) ≡ 30)
     × Passes (one host) 0 (sent ten)
     × Drops (one host) 0 (take 29 (sent ten))
@@ -183,15 +183,15 @@ Table =
     × Passes port_sheet 1 segment_frame
     × Drops port_sheet 1 (take 23 segment_frame)
     -- K8: "offsets 32767 and 32768 raw, 32753 and 32754 net on Ethernet, -1; shifts 31 and 32; no tokens: refusal 4."
-    × (answer_of (made (access 0 32767) 0 0) ≡ Program 11)
+    × (answer_of (made (access 0 32767) 0 0) ≡ Given 11)
     × (made (access 0 32768) 0 0 ≡ early 5 0)
-    × (answer_of (made (access 1 32753) 0 0) ≡ Program 11)
+    × (answer_of (made (access 1 32753) 0 0) ≡ Given 11)
     × (made (access 1 32754) 0 0 ≡ early 5 0)
     × (made (access 0 (2 ^ 32 - 1)) 0 0 ≡ early 5 0)
     × (made (access 1 (2 ^ 32 - 1)) 0 0 ≡ early 5 0)
-    × (answer_of (made (shifted 8 31) 0 0) ≡ Program 12)
+    × (answer_of (made (shifted 8 31) 0 0) ≡ Given 12)
     × (made (shifted 8 32) 0 0 ≡ early 6 0)
-    × (answer_of (made (shifted 9 31) 0 0) ≡ Program 12)
+    × (answer_of (made (shifted 9 31) 0 0) ≡ Given 12)
     × (made (shifted 9 32) 0 0 ≡ early 6 0)
     × (made (replicate 6 0) 0 0 ≡ early 4 0)
     × (made (lone host []) 0 0 ≡ early 4 0)
@@ -203,13 +203,13 @@ unfolding
     token_wrong wrong_byte most least plain_most access_most number_most optional field_most q_most first any be2 be4 be8 link_of dir_of cmp_of arith_of layer_of access_size_of proto_of maybe_proto_of
     decode_at dir_at proto_at host_at port_at net6_at ipv6_net_at ipv6_at access_at rhs_at step_at refusal ether_refusal unless_ether proto_refusal port_refusal access_refusal rhs_refusal steps_refusal
     step_refusal op_refusal L.program_length L.sizes_of L.size_at L.size_of L.count_of L.ethertype_size L.sides L.clip L.net6_side L.l4_size L.prereq_size L.proto_size L.cmp_size L.swap_size
-    L.layer_size L.access_size count tree_of trees_of template template_of emit_primitive emit_proto emit_host4 check_addr4 check_word_at emit_net6 check_net6 check_segment segment
+    L.layer_size L.access_size count tree_of trees_of template template_of emit_primitive emit_proto emit_host4 check_addr4 check_word_at emit_net6 check_net6 check_segment
     prefix_mask emit_port emit_port_prereqs prereqs_v4 emit_l4_proto_check check_ports check_port emit_byte_access access_at_code steps_and_cmp emit_steps emit_cmp sides transport
-    link_record ether_proto_offset net_offset emit_ethertype check emit_load guard load size_bytes end_of fails skips succeeds class_of compile_l emit_l listed prologue epilogue ended_l resolved_l set_off
-    reach successes failures code_of new to_le_bytes run_of go_of ended_of first_state step_of turn_of status_of place_after regs_after act_at act_of exit_act branch_reg_act branch_act swap_act imm32_act
+    link_record ether_proto_offset net_offset emit_ethertype check emit_load guard load bytes_of end_of fails skips succeeds class_of compile_l emit_l listed prologue epilogue ended_l resolved_l set_off
+    reach successes failures code_of new to_le_bytes run_of go_of ended_of first_state step_of turn_of halt_of place_after regs_after act_at act_of exit_act branch_reg_act branch_act swap_act imm32_act
     imm64_act reg64_act readable load_act frame_act context_act le_at with_of value_of known_of fresh exit_form branch_reg_form branch_form swap_form imm32_form imm64_form reg64_form load_form
     form_at form_of allowed plain compares swapped alu64 alu32 sext32 sext16 insn_at sheet_holds expression_holds primitive_holds holds M.means M.host4 M.net6 M.halves M.covered M.half_mask
-    M.half_of M.ports M.ports_at M.start4 M.ip M.ip6 M.l4 M.directed M.ethertype passes there number
+    segment_of M.ports M.ports_at M.start4 M.ip M.ip6 M.l4 M.directed M.ethertype passes there number
 worked = (
   refl,
   refl,

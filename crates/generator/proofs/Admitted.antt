@@ -10,18 +10,19 @@ use lib.ListN.{length, drop, length-drop}
 use lib.Seq.{length-take-le, take_all}
 use Rattle.filter.specs.Ast.{link_of}
 use Rattle.filter.specs.Record.{decode_at}
-use Rattle.filter.specs.Sheet.{steps_part, prims_part, tokens_part}
+use Rattle.filter.specs.Sheet.{counts, steps_part, prims_part, tokens_part}
 use Rattle.filter.specs.declared.ast.LinkType.{LinkType}
 use Rattle.filter.specs.declared.ast.Primitive.{Primitive}
 use Rattle.filter.proofs.Sheets.{sized}
 use Rattle.tree.specs.Shape.{shape_of}
 use Rattle.checks.specs.Check.{steps_before, check_of}
 use Rattle.checks.specs.Length as count
-use Rattle.checks.specs.Measure.{measured, measure_of, roomed, admit_of}
+use Rattle.checks.specs.Measure.{asks, measured, measure_of, roomed, admit_of}
 use Rattle.checks.specs.Refusal.{refusal}
-use Rattle.checks.specs.declared.check.Checked.{Checked}
-use Rattle.checks.specs.declared.check.Checked.TheVariants as checked
-use Rattle.checks.specs.declared.measure.Measured.TheVariants.{Refused, Length}
+use Rattle.refusals.specs.Refusal.{Answer}
+use Rattle.refusals.specs.Refusal.Answer.{Refused, Given}
+use Rattle.filter.specs.declared.sheet.Counts.{Counts}
+use Rattle.checks.specs.declared.measure.Measured.{Measured}
 use Rattle.checks.proofs.Bounds.{good, good_length, whole_shape}
 use Rattle.codegen.specs.Primitives.{emit_primitive}
 use Rattle.codegen.proofs.Sizes.{primitive_length}
@@ -54,39 +55,41 @@ sizes_sum mode link steps prims (suc n) k =
     rw e (omega (arith, sizes_sum mode link steps prims n (suc k), size_of_lem mode link steps (steps_before prims k) (decode_at prims (24 * k))))
 
 pub record Admitted (s : List ℕ) (link output work a b c l : ℕ) : Type 0 where
-  pub checked : check_of s link ≡ checked.Good a b c
+  pub checked : check_of s link ≡ Given (counts a b c)
   pub is : l ≡ count.program_length (link_of link) (steps_part s a) (prims_part s a b) (tokens_part s a b c) b c
   pub bytes : 8 * l ≤ output
   pub numbers : l + 8 * c ≤ work
 
-pub admitted : (s : List ℕ) (link mode output work a b c l : ℕ) → admit_of s link mode output work ≡ Length a b c l → Admitted s link output work a b c l
+pub admitted : (s : List ℕ) (link mode output work a b c l : ℕ) → admit_of s link mode output work ≡ Given (asks (counts a b c) l) → Admitted s link output work a b c l
 unfolding admit_of roomed measure_of measured
 admitted s link mode output work a b c l = on_mode (ltb 1 mode)
   where
-    on_check : (x : Checked) → check_of s link ≡ x → roomed (measured x s link) output work ≡ Length a b c l → Admitted s link output work a b c l
-    on_check (checked.Refused n p) e m = let never : ◌≡◌ {A = ℕ} 0 1 = cc in absurd (omega arith)
-    on_check (checked.Good x y z) e m = on_room (ltb output (8 * k)) refl (ltb work (k + 8 * z)) refl m
+    on_check : (x : Answer Counts) → check_of s link ≡ x → roomed (measured x s link) output work ≡ Given (asks (counts a b c) l) → Admitted s link output work a b c l
+    on_check (Refused n p) e m = let never : ◌≡◌ {A = ℕ} 0 1 = cc in absurd (omega arith)
+    on_check (Given n) e m = on_room (ltb output (8 * k)) refl (ltb work (k + 8 * n.tokens)) refl m
       where
         k : ℕ
-        k = count.program_length (link_of link) (steps_part s x) (prims_part s x y) (tokens_part s x y z) y z
+        k = count.program_length (link_of link) (steps_part s n.steps) (prims_part s n.steps n.prims) (tokens_part s n.steps n.prims n.tokens) n.prims n.tokens
 
-        on_room : (t : Bool) → ltb output (8 * k) ≡ t → (u : Bool) → ltb work (k + 8 * z) ≡ u → cond t (Refused 7 0) (cond u (Refused 8 0) (Length x y z k)) ≡ Length a b c l
+        on_room : (t : Bool) → ltb output (8 * k) ≡ t → (u : Bool) → ltb work (k + 8 * n.tokens) ≡ u → cond t (Refused 7 0) (cond u (Refused 8 0) (Given (asks n k))) ≡ Given (asks (counts a b c) l)
             → Admitted s link output work a b c l
         on_room true te u ue m = let never : ◌≡◌ {A = ℕ} 0 1 = cc in absurd (omega arith)
         on_room false te true ue m = let never : ◌≡◌ {A = ℕ} 0 1 = cc in absurd (omega arith)
         on_room false te false ue m =
-            let ea : x ≡ a = cc in
-            let eb : y ≡ b = cc in
-            let ec : z ≡ c = cc in
-            let el : k ≡ l = cc in
+            let same : asks n k ≡ asks (counts a b c) l = cc in
+            let en : n ≡ counts a b c = ap (λ (x : Measured). x.counts) same in
+            let el : k ≡ l = ap (λ (x : Measured). x.length) same in
+            let ec : n.tokens ≡ c = ap (λ (x : Counts). x.tokens) en in
+            let whole : k ≡ count.program_length (link_of link) (steps_part s a) (prims_part s a b) (tokens_part s a b c) b c =
+            ap (λ (x : Counts). count.program_length (link_of link) (steps_part s x.steps) (prims_part s x.steps x.prims) (tokens_part s x.steps x.prims x.tokens) x.prims x.tokens) en in
             record {
-              checked = rw (ea, eb, ec) at e;
-              is = rw (← ea, ← eb, ← ec) (sym el);
-              bytes = omega (arith, ltb-false output (8 * k) te);
-              numbers = omega (arith, ltb-false work (k + 8 * z) ue);
+              checked = e ∙ ap (λ (x : Counts). Given x) en;
+              is = sym el ∙ whole;
+              bytes = omega (arith, ltb-false output (8 * k) te, el);
+              numbers = omega (arith, ltb-false work (k + 8 * n.tokens) ue, el, ec);
             }
 
-    on_mode : (t : Bool) → cond t (Refused 1 0) (roomed (measured (check_of s link) s link) output work) ≡ Length a b c l → Admitted s link output work a b c l
+    on_mode : (t : Bool) → cond t (Refused 1 0) (roomed (measured (check_of s link) s link) output work) ≡ Given (asks (counts a b c) l) → Admitted s link output work a b c l
     on_mode true m = let never : ◌≡◌ {A = ℕ} 0 1 = cc in absurd (omega arith)
     on_mode false m = on_check (check_of s link) refl m
 
@@ -116,7 +119,7 @@ module _ {s : List ℕ} {link output work a b c l : ℕ} (v : Admitted s link ou
   }
 
   -- What `compile` comes to, over the sections.
-  pub late_outcome : (mode : ℕ) (x : LinkType) → x ≡ link_of link → admit_of s link mode output work ≡ Length a b c l
+  pub late_outcome : (mode : ℕ) (x : LinkType) → x ≡ link_of link → admit_of s link mode output work ≡ Given (asks (counts a b c) l)
       → outcome_of s link mode output work
       ≡ late l (length (tokens_part s a b c)) (compile_l (template mode x (steps_part s a) (prims_part s a b)) (tree_of (tokens_part s a b c)))
   unfolding outcome_of outcome

@@ -22,8 +22,10 @@ use Rattle.patches.proofs.Unchanged.{from_trans, from_more}
 use Rattle.patches.proofs.WholeTrees.{cost_tokens, tokens_same, tokens_accepted}
 use Rattle.patches.specs.Machine.{cost}
 use Rattle.patches.proofs.Zeros.{length_zeroed, zeroed_at, zeroed_from, zeroed_same}
-use Rattle.generator.specs.declared.Compiled.{Compiled}
-use Rattle.generator.specs.declared.Compiled.TheVariants.{Refused, Program}
+use Rattle.std.specs.Prelude.{Result, Ok, Err}
+use Rattle.refusals.specs.Refusal.{Answer, number_of, told}
+use Rattle.refusals.specs.Refusal.Answer.{Refused, Given}
+use Rattle.refusals.specs.declared.Refusal.{Refusal}
 use Rattle.generator.specs.Template.{template}
 use Rattle.generator.specs.Compile.{TryOk, Sized, answer_of, output_after}
 use Rattle.generator.specs.Compile.Outcome.{late}
@@ -40,13 +42,17 @@ cleared m n w w1 w2 w3 h k e len f g =
     g ∙ zeroed_same m w w2 (len ∙ e1) k (from_trans m w w1 w2 f1 (from_more n m w1 w2 h f))
 
 -- What the answer tells of the bytes.
-try_made : (l : ℕ) (f : Comp) (r : Compiled) (o : List ℕ) (n : ℕ) → TryOk l f r o → r ≡ Program n → (f ≡ made o) × (n ≡ l)
-try_made l (stopped c i) r o n k e = let z : ◌≡◌ {A = ℕ} 0 1 = cc in absurd (omega arith)
-try_made l (made o') r o n (k, h) e = (ap made (sym h), cc)
+try_made : (f : Comp) (r : Result (Unit {0}) Refusal) (o : List ℕ) → TryOk f r o → r ≡ Ok tt → f ≡ made o
+try_made (stopped c i) r o k e = let t : told r ≡ Given tt = ap told e in let z : ◌≡◌ {A = ℕ} 0 1 = cc in absurd (omega arith)
+try_made (made o') r o (k, h) e = ap made (sym h)
 
-try_stopped : (l : ℕ) (f : Comp) (r : Compiled) (o : List ℕ) (c i : ℕ) → TryOk l f r o → r ≡ Refused c i → f ≡ stopped c i
-try_stopped l (stopped d j) r o c i k e = let a : d ≡ c = cc in let b : j ≡ i = cc in rw (a, b) refl
-try_stopped l (made o') r o c i (k, h) e = let z : ◌≡◌ {A = ℕ} 0 1 = cc in absurd (omega arith)
+try_stopped : (f : Comp) (r : Result (Unit {0}) Refusal) (o : List ℕ) (x : Refusal) → TryOk f r o → r ≡ Err x → f ≡ stopped (number_of x.reason) x.place
+try_stopped (stopped d j) r o x k e =
+    let t : told r ≡ Refused (number_of x.reason) x.place = ap told e in
+    let a : d ≡ number_of x.reason = cc in
+    let b : j ≡ x.place = cc in
+    rw (a, b) refl
+try_stopped (made o') r o x (k, h) e = let z : ◌≡◌ {A = ℕ} 0 1 = cc in absurd (omega arith)
 
 -- Bytes that begin with the program and are as before from its end on.
 begun : (is : List Insn) (l : ℕ) (o o1 : List ℕ) → length is ≡ l → length o1 ≡ length o → SameFrom (8 * l) o o1 → Begins o1 is → o1 ≡ code_of is ++ drop (8 * l) o
@@ -64,23 +70,23 @@ module _ (mode : ℕ) (link : LinkType) (steps prims tokens : List ℕ) (l : ℕ
   abbrev result : CompL
   result = compile_l (template mode link steps prims) (tree_of tokens)
 
-  module _ (o o1 : List ℕ) (r : Compiled) (ok : TryOk l (compiled (template mode link steps prims) tokens o) r o1) (room : 8 * l ≤ length o) (len : length o1 ≡ length o)
+  module _ (o o1 : List ℕ) (r : Result (Unit {0}) Refusal) (ok : TryOk (compiled (template mode link steps prims) tokens o) r o1) (room : 8 * l ≤ length o) (len : length o1 ≡ length o)
       (same : SameFrom (8 * l) o o1) where
-    pub answer_made : (n : ℕ) → r ≡ Program n → (Program n ≡ answer_of (late l (length tokens) result)) × (o1 ≡ output_after (late l (length tokens) result) o)
+    pub answer_made : r ≡ Ok tt → (◌≡◌ {A = Answer ℕ} (Given l) (answer_of (late l (length tokens) result))) × (o1 ≡ output_after (late l (length tokens) result) o)
     unfolding answer_of output_after
-    answer_made n e =
-        let t = try_made l (compiled (template mode link steps prims) tokens o) r o1 n ok e in
-        let a = tokens_accepted (template mode link steps prims) tokens z.leaves z.one_tree o o1 l z.exact room t.0 in
-        (rw (a.eq, t.1) refl, rw a.eq (begun a.is l o o1 a.len len same a.begins))
+    answer_made e =
+        let t = try_made (compiled (template mode link steps prims) tokens o) r o1 ok e in
+        let a = tokens_accepted (template mode link steps prims) tokens z.leaves z.one_tree o o1 l z.exact room t in
+        (rw a.eq refl, rw a.eq (begun a.is l o o1 a.len len same a.begins))
 
-    pub answer_stopped : (c i : ℕ) → r ≡ Refused c i → (o2 : List ℕ) → o2 ≡ zeroed (8 * l) o1
-        → (Refused c i ≡ answer_of (late l (length tokens) result)) × (o2 ≡ output_after (late l (length tokens) result) o)
+    pub answer_stopped : (x : Refusal) → r ≡ Err x → (o2 : List ℕ) → o2 ≡ zeroed (8 * l) o1
+        → (◌≡◌ {A = Answer ℕ} (Refused (number_of x.reason) x.place) (answer_of (late l (length tokens) result))) × (o2 ≡ output_after (late l (length tokens) result) o)
     unfolding answer_of output_after
-    answer_stopped c i e o2 q =
-        let t = try_stopped l (compiled (template mode link steps prims) tokens o) r o1 c i ok e in
+    answer_stopped x e o2 q =
+        let t = try_stopped (compiled (template mode link steps prims) tokens o) r o1 x ok e in
         let s = refused_same (compiled (template mode link steps prims) tokens o) result (tokens_same (template mode link steps prims) tokens z.leaves z.one_tree o) t in
         (rw s refl, rw s (q ∙ zeroed_same (8 * l) o o1 len room same))
       where
-        refused_same : (x : Comp) (y : CompL) → Same (length o) x y → x ≡ stopped c i → y ≡ stopped_l c i
-        refused_same x y (no_code {c = d} {i = j}) w = let a : d ≡ c = cc in let b : j ≡ i = cc in rw (a, b) refl
-        refused_same x y (program k) w = let never : ◌≡◌ {A = ℕ} 0 1 = cc in absurd (omega arith)
+        refused_same : (u : Comp) (y : CompL) → Same (length o) u y → u ≡ stopped (number_of x.reason) x.place → y ≡ stopped_l (number_of x.reason) x.place
+        refused_same u y (no_code {c = d} {i = j}) w = let a : d ≡ number_of x.reason = cc in let b : j ≡ x.place = cc in rw (a, b) refl
+        refused_same u y (program k) w = let never : ◌≡◌ {A = ℕ} 0 1 = cc in absurd (omega arith)

@@ -1,22 +1,20 @@
 -- The end of a program: the two exits, then the open jumps.
-use Prim.Native.Nat.{ℕ, ◌+◌, ◌*◌, ◌^◌, ◌<◌, ◌≤◌}
-use mathlib.Core.Path.{◌≡◌, refl, ap, ◌∙◌}
-use mathlib.Core.List.{List}
-use native.Mathlib.Omega.{arith}
-use Rattle.patches.specs.declared.Patched.TheVariants.{Done, TooFar}
+use Rattle.std.proofs.Common.{◌≡◌, ℕ, ◌+◌, ◌*◌, ◌^◌, ◌<◌, ◌≤◌, List, Result, Ok, Err, refl, sym, ap, ◌∙◌, subst, arith}
 use Rattle.patches.specs.declared.Patches.{Patches}
-use Rattle.patches.specs.Chain.{chain_of, reach, resolved}
-use Rattle.patches.specs.Code.{Emission, em, push1, block, outs}
+use Rattle.refusals.specs.declared.Refusal.{Refusal}
+use Rattle.refusals.specs.declared.Reason.TheVariants.{FarJump}
+use Rattle.patches.specs.Chain.{too_far, chain_of, reach, resolved}
+use Rattle.patches.specs.Code.{Emission, with_out, push1, block, outs}
 use Rattle.patches.specs.Operators.{turn_of}
 use Rattle.patches.specs.Rel.{Some}
-use Rattle.patches.specs.Same.{SameFrom}
+use Rattle.patches.specs.Same.{SameFrom, Kept}
 use Rattle.patches.specs.Whole.{epilogue, ended}
 use Rattle.patches.proofs.Blocks.{out_block}
+use Rattle.patches.proofs.Bytes.{length_resolved}
 use Rattle.patches.proofs.Reading.{heads_lt, turn}
 use Rattle.patches.proofs.Places.{AllLt}
-use Rattle.patches.proofs.Unchanged.{from_trans, from_outs, from_resolved}
+use Rattle.patches.proofs.Unchanged.{from_trans, from_outs, from_resolved, block_kept, kept_trans}
 use Rattle.pieces.specs.Fragments.{Fits}
-use Rattle.generator.specs.declared.Compiled.TheVariants.{Refused, Program}
 use Rattle.generator.specs.Compile.{TryOk}
 
 pub exits_fit : (l : ℕ) (st : Patches) → st.pos + 4 ≤ l → l < 2 ^ 32 → Fits epilogue st
@@ -24,52 +22,88 @@ unfolding epilogue
 exits_fit l st h k = record { room = omega arith }
 
 -- The exits change no number of work.
-exits_work : (o w : List ℕ) (st : Patches) → (block epilogue (em o w st)).work ≡ w
+exits_work : (y : Emission) → (block epilogue y).work ≡ y.work
 unfolding block push1 epilogue
-exits_work o w st = refl
+exits_work y = refl
 
-module _ (l : ℕ) (o w : List ℕ) (st : Patches) (s : Some l w 0 st) (room : st.pos + 4 ≤ l) (o1 w1 : List ℕ) (x : Patches) (e : em o1 w1 x ≡ block epilogue (em o w st)) where
-  pub work_is : w1 ≡ w
-  work_is = ap (λ (v : Emission). v.work) e ∙ exits_work o w st
+-- The clauses of `end`.
+abbrev pub Ended : ℕ → Emission → Result (Unit {0}) Refusal → Emission → Type 0
+Ended l y r z =
+    record {
+      try_ok : TryOk (ended y.out y.patches.pos (chain_of y.work y.patches.success.head) (chain_of y.work y.patches.failure.head)) r z.out;
+      kept : Kept y z;
+      same_from : SameFrom (8 * l) y.out z.out;
+      work_unchanged : z.work ≡ y.work;
+    }
 
-  out_is : o1 ≡ outs epilogue st.pos o
-  out_is = ap (λ (v : Emission). v.out) e ∙ out_block epilogue (em o w st)
+module _ (l : ℕ) (y : Emission) (s : Some l y.work 0 y.patches) (room : y.patches.pos + 4 ≤ l) (y1 : Emission) (e : y1 ≡ block epilogue y) where
+  abbrev pos : ℕ
+  pos = y.patches.pos
 
-  same_exits : SameFrom (8 * l) o o1
+  pub work_is : y1.work ≡ y.work
+  work_is = ap (λ (v : Emission). v.work) e ∙ exits_work y
+
+  out_is : y1.out ≡ outs epilogue pos y.out
+  out_is = ap (λ (v : Emission). v.out) e ∙ out_block epilogue y
+
+  pub exits_kept : Kept y y1
+  exits_kept = subst (λ (v : Emission). Kept y v) (sym e) (block_kept epilogue y)
+
+  same_exits : SameFrom (8 * l) y.out y1.out
   unfolding epilogue
-  same_exits = rw out_is (from_outs l epilogue st.pos o (omega arith))
+  same_exits = rw out_is (from_outs l epilogue pos y.out (omega arith))
 
-  failures_lt : AllLt l (chain_of w st.failure.head)
+  failures_lt : AllLt l (chain_of y.work y.patches.failure.head)
   unfolding turn_of
   failures_lt = heads_lt (turn s.rel)
 
   -- The first list is resolved.
-  module _ (o2 : List ℕ) (e2 : o2 ≡ resolved st.pos (chain_of w1 st.success.head) o1) where
-    same_first : SameFrom (8 * l) o o2
-    same_first =
-        from_trans (8 * l) o o1 o2 same_exits
-        (rw (e2, work_is) (from_resolved l st.pos (chain_of w st.success.head) o1 (heads_lt s.rel)))
+  abbrev first : List ℕ
+  first = resolved pos (chain_of y1.work y.patches.success.head) y1.out
 
-    pub first_far : TooFar ≡ reach st.pos (chain_of w1 st.success.head)
-        → TryOk l (ended o st.pos (chain_of w st.success.head) (chain_of w st.failure.head)) (Refused 10 0) o2 × (SameFrom (8 * l) o o2 × (w1 ≡ w))
+  same_first : SameFrom (8 * l) y.out first
+  same_first = from_trans (8 * l) y.out y1.out first same_exits (rw work_is (from_resolved l pos (chain_of y.work y.patches.success.head) y1.out (heads_lt s.rel)))
+
+  kept_first : Kept y (with_out first y1)
+  kept_first =
+      kept_trans exits_kept (record { setting = refl; out_len = length_resolved pos (chain_of y1.work y.patches.success.head) y1.out; work_len = refl })
+
+  pub first_far : Err too_far ≡ reach pos (chain_of y1.work y.patches.success.head) → (z : Emission) → z ≡ with_out first y1 → Ended l y (Err (record { reason = FarJump; place = 0 })) z
+  unfolding ended
+  first_far h z ez = subst (λ (v : Emission). Ended l y (Err (record { reason = FarJump; place = 0 })) v) (sym ez) (record {
+    try_ok = rw (← (rw work_is at h)) refl;
+    kept = kept_first;
+    same_from = same_first;
+    work_unchanged = work_is;
+  })
+
+  -- And the second.
+  module _ (near : Ok tt ≡ reach pos (chain_of y1.work y.patches.success.head)) where
+    abbrev second : List ℕ
+    second = resolved (pos + 2) (chain_of y1.work y.patches.failure.head) first
+
+    same_second : SameFrom (8 * l) y.out second
+    same_second = from_trans (8 * l) y.out first second same_first (rw work_is (from_resolved l (pos + 2) (chain_of y.work y.patches.failure.head) (resolved pos (chain_of y.work y.patches.success.head) y1.out) failures_lt))
+
+    kept_second : Kept y (with_out second y1)
+    kept_second =
+        kept_trans kept_first (record { setting = refl; out_len = length_resolved (pos + 2) (chain_of y1.work y.patches.failure.head) first; work_len = refl })
+
+    pub second_far : Err too_far ≡ reach (pos + 2) (chain_of y1.work y.patches.failure.head) → (z : Emission) → z ≡ with_out second y1
+        → Ended l y (Err (record { reason = FarJump; place = 0 })) z
     unfolding ended
-    first_far h = (rw (← (rw work_is at h)) refl, (same_first, work_is))
+    second_far h z ez = subst (λ (v : Emission). Ended l y (Err (record { reason = FarJump; place = 0 })) v) (sym ez) (record {
+      try_ok = rw (← (rw work_is at near), ← (rw work_is at h)) refl;
+      kept = kept_second;
+      same_from = same_second;
+      work_unchanged = work_is;
+    })
 
-    -- And the second.
-    module _ (near : Done ≡ reach st.pos (chain_of w1 st.success.head)) (o3 : List ℕ)
-        (e3 : o3 ≡ resolved (st.pos + 2) (chain_of w1 st.failure.head) o2) where
-      same_second : SameFrom (8 * l) o o3
-      same_second =
-          from_trans (8 * l) o o2 o3 same_first
-          (rw (e3, work_is) (from_resolved l (st.pos + 2) (chain_of w st.failure.head) o2 failures_lt))
-
-      pub second_far : TooFar ≡ reach (st.pos + 2) (chain_of w1 st.failure.head)
-          → TryOk l (ended o st.pos (chain_of w st.success.head) (chain_of w st.failure.head)) (Refused 10 0) o3 × (SameFrom (8 * l) o o3 × (w1 ≡ w))
-      unfolding ended
-      second_far h = (rw (← (rw work_is at near), ← (rw work_is at h)) refl, (same_second, work_is))
-
-      pub all_near : Done ≡ reach (st.pos + 2) (chain_of w1 st.failure.head)
-          → TryOk l (ended o st.pos (chain_of w st.success.head) (chain_of w st.failure.head)) (Program l) o3 × (SameFrom (8 * l) o o3 × (w1 ≡ w))
-      unfolding ended
-      all_near h =
-          (rw (← (rw work_is at near), ← (rw work_is at h)) (refl, rw (← out_is, ← work_is) (e3 ∙ ap (resolved (st.pos + 2) (chain_of w1 st.failure.head)) e2)), (same_second, work_is))
+    pub all_near : Ok tt ≡ reach (pos + 2) (chain_of y1.work y.patches.failure.head) → (z : Emission) → z ≡ with_out second y1 → Ended l y (Ok tt) z
+    unfolding ended
+    all_near h z ez = subst (λ (v : Emission). Ended l y (Ok tt) v) (sym ez) (record {
+      try_ok = rw (← (rw work_is at near), ← (rw work_is at h)) (refl, rw (← out_is, ← work_is) refl);
+      kept = kept_second;
+      same_from = same_second;
+      work_unchanged = work_is;
+    })

@@ -1,5 +1,5 @@
 -- `compile`: its answer, and what it leaves in output and work, for any arguments.
-use Rattle.std.specs.Prelude.{ℕ, ◌+◌, ◌*◌, ◌^◌, ◌<◌, ◌≤◌, ◌≡◌, List, ◌++◌, drop, length, Some}
+use Rattle.std.specs.Prelude.{Result, Ok, ℕ, ◌+◌, ◌*◌, ◌^◌, ◌<◌, ◌≤◌, ◌≡◌, List, ◌++◌, drop, length, Some}
 use Rattle.filter.specs.Ast.{link_of}
 use Rattle.filter.specs.declared.ast.LinkType.{LinkType}
 use Rattle.filter.specs.Sheet.{steps_part, prims_part, tokens_part}
@@ -8,7 +8,8 @@ use Rattle.tree.specs.Tokens.{count, is_jump}
 use Rattle.tree.specs.Shape.{shape_of}
 use Rattle.checks.specs.Measure.{admit_of}
 use Rattle.checks.specs.declared.measure.Measured.{Measured}
-use Rattle.checks.specs.declared.measure.Measured.TheVariants as measured
+use Rattle.refusals.specs.Refusal.{Answer, told}
+use Rattle.refusals.specs.Refusal.Answer.{Refused, Given}
 use Rattle.program.specs.Program.{code_of}
 use Rattle.patches.specs.Finish.{Ending, Wholes}
 use Rattle.patches.specs.Finish.Ending.{refuse, wait, whole}
@@ -20,31 +21,31 @@ use Rattle.patches.specs.Listing.CompL.{stopped_l, made_l}
 use Rattle.patches.specs.Same.{zeroed}
 use Rattle.patches.specs.Whole.{Comp}
 use Rattle.patches.specs.Whole.Comp.{stopped, made}
-use Rattle.patches.specs.declared.Finished.{Finished}
-use Rattle.patches.specs.declared.Finished.TheVariants as finished
+use Rattle.refusals.specs.declared.Refusal.{Refusal}
+use Rattle.patches.specs.Code.{Emission}
 use Rattle.generator.specs.Template.{template}
-use Rattle.generator.specs.declared.Compiled.{Compiled}
-use Rattle.generator.specs.declared.Compiled.TheVariants.{Refused, Program}
 
 -- One of refusals 1 to 8; or L, the number of tokens, and what the Rust's `compile` gives: one of 10 to 19, or the instructions.
 pub data Outcome : Type 0 where
   early : ℕ → ℕ → Outcome
   late : ℕ → ℕ → CompL → Outcome
 
-unfoldable pub outcome : Measured → List ℕ → ℕ → ℕ → Outcome
-outcome (measured.Refused number place) s link mode = early number place
-outcome (measured.Length a b c l) s link mode =
-    late l c (compile_l (template mode (link_of link) (steps_part s a) (prims_part s a b)) (tree_of (tokens_part s a b c)))
+unfoldable pub outcome : Answer Measured → List ℕ → ℕ → ℕ → Outcome
+outcome (Refused number place) s link mode = early number place
+outcome (Given m) s link mode =
+    let n = m.counts in
+    late m.length n.tokens
+    (compile_l (template mode (link_of link) (steps_part s n.steps) (prims_part s n.steps n.prims)) (tree_of (tokens_part s n.steps n.prims n.tokens)))
 
 -- For a sheet, a link, a mode, so many bytes of output and so many numbers of work.
 unfoldable pub outcome_of : List ℕ → ℕ → ℕ → ℕ → ℕ → Outcome
 outcome_of s link mode output work = outcome (admit_of s link mode output work) s link mode
 
 -- The refusal and its place, or L.
-unfoldable pub answer_of : Outcome → Compiled
+unfoldable pub answer_of : Outcome → Answer ℕ
 answer_of (early number place) = Refused number place
 answer_of (late l c (stopped_l number place)) = Refused number place
-answer_of (late l c (made_l is)) = Program l
+answer_of (late l c (made_l is)) = Given l
 
 -- "After 1 to 8 output and work are untouched; after 10 to 19 the first 8 x L output bytes are zero; accepted, they are the program."
 unfoldable pub output_after : Outcome → List ℕ → List ℕ
@@ -57,9 +58,9 @@ unfoldable pub work_after : Outcome → List ℕ → List ℕ
 work_after (early number place) work = work
 work_after (late l c x) work = zeroed (l + 8 * c) work
 
--- Nothing is written.
-abbrev pub unwritten : Patches
-unwritten = record { pos = 0; success = empty; failure = empty }
+-- So many instructions are written, and no jump is open.
+abbrev pub written_to : ℕ → Patches
+written_to pos = record { pos = pos; success = empty; failure = empty }
 
 -- The sections of a sheet past refusal 8: one whole tree of so many primitives, and their L.
 pub record Sized (mode : ℕ) (link : LinkType) (steps prims tokens : List ℕ) (l : ℕ) : Type 0 where
@@ -69,13 +70,13 @@ pub record Sized (mode : ℕ) (link : LinkType) (steps prims tokens : List ℕ) 
   pub short : l < 2 ^ 32
   pub few : length tokens < 2 ^ 16
 
--- The answer r, bytes and numbers after the walk over the tokens, with room for the exits: none of its operators waits any more.
-abbrev pub WalkOk : ℕ → Ending → Finished → List ℕ → List ℕ → Type 0
-WalkOk l (refuse number place) r out work = r ≡ finished.Refused number place
-WalkOk l (wait out' pos fs) r out work = ⊥
-WalkOk l (whole out' pos sp fp) r out work = (out ≡ out') × (pos + 4 ≤ l) × Wholes l sp fp pos r work
+-- The answer r, and what is written, after the walk over the tokens, with room for the exits: none of its operators waits any more.
+abbrev pub WalkOk : ℕ → Ending → Result (Unit {0}) Refusal → Emission → Type 0
+WalkOk l (refuse number place) r e = told r ≡ Refused number place
+WalkOk l (wait out pos fs) r e = ⊥
+WalkOk l (whole out pos sp fp) r e = (r ≡ Ok tt) × (e.out ≡ out) × (pos + 4 ≤ l) × Wholes l sp fp pos (Ok 0) e
 
 -- The answer r and the bytes once the exits are written and all jumps are set.
-abbrev pub TryOk : ℕ → Comp → Compiled → List ℕ → Type 0
-TryOk l (stopped number place) r out = r ≡ Refused number place
-TryOk l (made out') r out = (r ≡ Program l) × (out ≡ out')
+abbrev pub TryOk : Comp → Result (Unit {0}) Refusal → List ℕ → Type 0
+TryOk (stopped number place) r out = told r ≡ Refused number place
+TryOk (made out') r out = (r ≡ Ok tt) × (out ≡ out')

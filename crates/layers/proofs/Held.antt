@@ -11,12 +11,12 @@ use Rattle.ebpf.specs.Insn.{insn_at, fetch_at, exit_insn}
 use Rattle.ebpf.specs.declared.insn.Insn.{Insn}
 use Rattle.program.specs.Program.{code_of, Fits}
 use Rattle.program.proofs.Bytes.{code_length, insn_read}
-use Rattle.layers.specs.Records.{plan_of, count_of, insn_of, record_of, records_of, filled_to, filled_run}
-use Rattle.layers.specs.declared.records.Filled.TheVariants.{Records}
+use Rattle.layers.specs.Records.{plan_of, count_of, record_of, records_of, filled_to, filled_run}
+use Rattle.std.specs.Prelude.{Ok}
 use Rattle.layers.proofs.Runs.{plan_records}
 
 record_read : (p : List ℕ) (k : ℕ) → k * 8 + 8 ≤ length p → record_of p k ≡ insn_at p (k * 8)
-unfolding record_of insn_of fetch_at
+unfolding record_of fetch_at
 record_read p k h = simp (le-leb (k * 8 + 8) (length p) h)
 
 module _ {is : List Insn} (fits : Fits is) where
@@ -43,6 +43,6 @@ module _ {is : List Insn} (fits : Fits is) where
   unfolding filled_run filled_to count_of
   run_holds ys h =
       let many : length (code_of is) / 8 ≡ length is = omega (arith, code_length is) in
-      let planned : Records (length is) ≡ plan_of (length (code_of is)) (length ys) =
+      let planned : Ok (length is) ≡ plan_of (length (code_of is)) (length ys) =
       rw (← many) (plan_records (length (code_of is)) (length ys) (omega (arith, code_length is)) (omega (arith, code_length is))) in
       rw (← planned) (ap (λ (l : List Insn). l ++ drop (length is) ys) records_hold)

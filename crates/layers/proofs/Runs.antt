@@ -1,5 +1,9 @@
 -- Laws of a run that is filled: each case of its definitions by the fact that leads there, and what is found in it. Assumes nothing.
 use Prim.Native.Nat.{ℕ, zero, suc, zero-le, ◌+◌, ◌-◌, ◌*◌, ◌/◌, ◌%◌, ◌<◌, ◌≤◌}
+use Rattle.std.specs.Prelude.{Some, Result, Ok, Err, slice_get}
+use Rattle.std.proofs.lemmas.Option.{slice_get-get_or, slice_get_past}
+use Rattle.std.proofs.Math.Decide.{dec_le}
+use Rattle.std.proofs.Math.Nat.{lt_of_not-le}
 use mathlib.Core.Path.{◌≡◌, refl, sym, ap, subst, ◌∙◌}
 use mathlib.Core.Logic.{◌⊎◌, inl, inr}
 use mathlib.Core.Bool.{Bool, true, false, cond}
@@ -10,55 +14,35 @@ use native.Mathlib.Nat.{add-sub_of_le, eq-or-lt_of_le, le_of_suc-le-suc, le_refl
 use lib.Dec.{eqb, leb}
 use lib.ListN.{length, get_or, set, drop, replicate, length-append, length-drop}
 use lib.Seq.{drop-cons, set-append_seam, append_snoc, get_or-append_seam, get_or-append-add, get_or-drop}
-use borrow.Author.Tests.{leb-true, eq-eqb, ne_eqb, le-leb, lt-leb, lt-ltb, le-ltb}
+use borrow.Author.Tests.{leb-true, eq-eqb, le-leb}
 use Rattle.ebpf.specs.Insn.{fetch_at}
 use Rattle.ebpf.specs.declared.insn.Insn.{Insn}
-use Rattle.ebpf.specs.declared.insn.Fetched.TheVariants.{Here, Nothing}
-use Rattle.layers.specs.Records.{no_insn, plan_of, count_of, insn_of, record_of, records_of, filled_to, filled_run, found_at, empty_run}
-use Rattle.layers.specs.declared.records.Filled.TheVariants.{Records, NotWhole, TooFew}
+use Rattle.layers.specs.Records.{no_insn, plan_of, count_of, record_of, records_of, filled_to, filled_run, found_at, empty_run}
+use Rattle.layers.specs.declared.records.NotFilled.{NotFilled}
+use Rattle.layers.specs.declared.records.NotFilled.TheVariants.{NotWhole, TooFew}
 
 module _ (n m : ℕ) where
-  pub plan_records : n % 8 ≡ 0 → n / 8 ≤ m → Records (n / 8) ≡ plan_of n m
+  pub plan_records : n % 8 ≡ 0 → n / 8 ≤ m → Ok (n / 8) ≡ plan_of n m
   unfolding plan_of
   plan_records whole enough = simp (eq-eqb (n % 8) 0 whole, le-leb (n / 8) m enough)
-
-  pub plan_few : n % 8 ≡ 0 → m < n / 8 → TooFew ≡ plan_of n m
-  unfolding plan_of
-  plan_few whole few = simp (eq-eqb (n % 8) 0 whole, lt-leb (n / 8) m few)
-
-  pub plan_ragged : (n % 8 ≡ 0 → ⊥) → NotWhole ≡ plan_of n m
-  unfolding plan_of
-  plan_ragged ragged = simp (ne_eqb (n % 8) 0 ragged)
 
   -- the records that are filled are in the run and in the bytes
   pub count_fits : (count_of (plan_of n m) ≤ m) × (count_of (plan_of n m) ≤ n / 8)
   unfolding plan_of count_of
   count_fits = whole (eqb (n % 8) 0)
     where
-      enough : (t : Bool) → leb (n / 8) m ≡ t → (count_of (cond t (Records (n / 8)) TooFew) ≤ m) × (count_of (cond t (Records (n / 8)) TooFew) ≤ n / 8)
+      enough : (t : Bool) → leb (n / 8) m ≡ t → (count_of (cond {A = Result ℕ NotFilled} t (Ok (n / 8)) (Err TooFew)) ≤ m) × (count_of (cond {A = Result ℕ NotFilled} t (Ok (n / 8)) (Err TooFew)) ≤ n / 8)
       enough true e = (leb-true (n / 8) m e, le_refl (n / 8))
       enough false e = (zero-le, zero-le)
 
-      whole : (t : Bool) → (count_of (cond t (cond (leb (n / 8) m) (Records (n / 8)) TooFew) NotWhole) ≤ m) × (count_of (cond t (cond (leb (n / 8) m) (Records (n / 8)) TooFew) NotWhole) ≤ n / 8)
+      whole : (t : Bool) → (count_of (cond {A = Result ℕ NotFilled} t (cond (leb (n / 8) m) (Ok (n / 8)) (Err TooFew)) (Err NotWhole)) ≤ m) × (count_of (cond {A = Result ℕ NotFilled} t (cond (leb (n / 8) m) (Ok (n / 8)) (Err TooFew)) (Err NotWhole)) ≤ n / 8)
       whole true = enough (leb (n / 8) m) refl
       whole false = (zero-le, zero-le)
 
 module _ (p : List ℕ) (k : ℕ) where
-  pub record_here : (i : Insn) → fetch_at p (k * 8) ≡ Here i → i ≡ record_of p k
-  unfolding record_of insn_of
-  record_here i e = ap insn_of (sym e)
-
-  pub record_nothing : fetch_at p (k * 8) ≡ Nothing → no_insn ≡ record_of p k
-  unfolding record_of insn_of
-  record_nothing e = ap insn_of (sym e)
-
-  pub record_past : length p / 8 ≤ k → no_insn ≡ record_of p k
-  unfolding fetch_at
-  record_past h = record_nothing (simp (lt-leb (k * 8 + 8) (length p) (omega (arith, h))))
-
   -- where the eight bytes are there, the record is what is fetched
-  pub record_fetched : k < length p / 8 → Here (record_of p k) ≡ fetch_at p (k * 8)
-  unfolding record_of insn_of fetch_at
+  pub record_fetched : k < length p / 8 → Some (record_of p k) ≡ fetch_at p (k * 8)
+  unfolding record_of fetch_at
   record_fetched h = simp (le-leb (k * 8 + 8) (length p) (omega (arith, h)))
 
 pub length_records : (p : List ℕ) (n : ℕ) → length (records_of p n) ≡ n
@@ -122,22 +106,20 @@ module _ (p : List ℕ) (ys : List Insn) where
   found_filled k h =
       let n : ℕ = count_of (plan_of (length p) (length ys)) in
       let fits : k < length (filled_to p ys n) = subst (λ (m : ℕ). k < m) (sym length_run) (lt_of_lt_of_le h (count_fits (length p) (length ys)).0) in
-      let found : found_at (filled_run p ys) k ≡ Here (record_of p k) = simp (lt-ltb k (length (filled_to p ys n)) fits, filled_at n k h) in
-      found ∙ record_fetched p k (lt_of_lt_of_le h (count_fits (length p) (length ys)).1)
+      slice_get-get_or (filled_to p ys n) k no_insn fits ∙ ap Some (filled_at n k h)
+      ∙ record_fetched p k (lt_of_lt_of_le h (count_fits (length p) (length ys)).1)
 
   -- any other record of the run is left as it was
   pub found_left : (k : ℕ) → count_of (plan_of (length p) (length ys)) ≤ k → found_at (filled_run p ys) k ≡ found_at ys k
   unfolding found_at filled_run
-  found_left k h = simp (length_run, left_at (count_of (plan_of (length p) (length ys))) k h)
+  found_left k h = place (dec_le (length ys) k)
+    where
+      n : ℕ
+      n = count_of (plan_of (length p) (length ys))
 
-module _ (ys : List Insn) (k : ℕ) where
-  pub found_in : k < length ys → Here (get_or ys k no_insn) ≡ found_at ys k
-  unfolding found_at
-  found_in h = simp (lt-ltb k (length ys) h)
-
-  pub found_past : length ys ≤ k → Nothing ≡ found_at ys k
-  unfolding found_at
-  found_past h = simp (le-ltb k (length ys) h)
+      place : Dec (length ys ≤ k) → slice_get (filled_to p ys n) k ≡ slice_get ys k
+      place (yes past) = slice_get_past (filled_to p ys n) k (rw length_run past) ∙ sym (slice_get_past ys k past)
+      place (no not) = let inside : k < length ys = lt_of_not-le not in slice_get-get_or (filled_to p ys n) k no_insn (rw length_run inside) ∙ ap Some (left_at n k h) ∙ sym (slice_get-get_or ys k no_insn inside)
 
 pub length_empty : length empty_run ≡ 16
 unfolding empty_run

@@ -7,7 +7,8 @@ use report::list;
 use std::io;
 use std::io::{Read, Write};
 
-// Reads until `buf` is full or the input ends; the answer is how many bytes were put at its start.
+// Reads until `buf` is full or the input ends; the answer is how many bytes were put at its start. No `for`: each read says how far it came.
+// The program `insn_forms` has the same, and no crate beneath both reads.
 fn read_full<R: Read>(from: &mut R, buf: &mut [u8]) -> io::Result<usize>
     ensures { IfOk result (λ n. n ≤ length buf.new) }
 {

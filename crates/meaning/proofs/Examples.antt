@@ -1,7 +1,7 @@
 -- The definitions computed, by hand-made frames and sheets: what document 01 checks by hand of the evaluator.
 use Rattle.std.specs.Prelude.{None}
 use Rattle.std.proofs.Common.{◌≡◌, ℕ, zero, suc, true, false, List, [], ◌∷◌, ◌++◌, take, refl}
-use Rattle.filter.specs.Ast.{link_of, link_record, ether_proto_offset, net_offset, dir_of}
+use Rattle.filter.specs.Ast.{link_of, link_record, ether_proto_offset, net_offset, dir_of, segment_of}
 use Rattle.filter.specs.Bytes.{be2, be4}
 use Rattle.filter.specs.First.{first, any}
 use Rattle.filter.specs.Record.{decode_at, dir_at, host_at}
@@ -13,12 +13,12 @@ use Rattle.checks.specs.Check.{wrong_in, sheet_wrong, lowest_wrong, takes, steps
 use Rattle.checks.specs.Refusal.{refusal, refusal_at}
 use Rattle.meaning.specs.Frame.{there, number, passes}
 use Rattle.filter.specs.Prefix.{prefix_mask}
-use Rattle.meaning.specs.Meaning.{directed, covered, half_mask, half_of, given, l4, ethertype, ip, ip6, address4, host4, net4, halves, net6, start4, start6, ports_at, ports, means}
+use Rattle.meaning.specs.Meaning.{directed, covered, half_mask, given, l4, ethertype, ip, ip6, address4, host4, net4, halves, net6, start4, start6, ports_at, ports, means}
 use Rattle.meaning.specs.Evaluate.{primitive_holds, expression_holds, first_refused, judge, evaluated, evaluate_of}
 use Rattle.filter.specs.declared.ast.LinkType.TheVariants.{Ethernet, RawIp}
 use Rattle.filter.specs.declared.ast.Dir.TheVariants.{SrcOrDst, Src}
 use Rattle.filter.specs.declared.ast.Primitive.TheVariants.{Port}
-use Rattle.meaning.specs.declared.evaluate.Verdict.TheVariants.{Refused, Judged}
+use Rattle.refusals.specs.Refusal.Answer.{Refused, Given}
 
 abbrev zeros : ℕ → List ℕ
 zeros zero = []
@@ -37,7 +37,7 @@ pub nets : (net6 Ethernet (bare 0xdd) (record { hi = 7; lo = 8 }) 0 Src ≡ true
     × (net4 Ethernet bare4 (record { addr = 7; mask = 0 }) Src ≡ false)
     × (net4 Ethernet (bare4 ++ zeros 16) (record { addr = 7; mask = 0 }) Src ≡ true)
     × (net4 Ethernet (bare4 ++ zeros 15) (record { addr = 7; mask = 0 }) Src ≡ false)
-unfolding net6 net4 address4 halves directed ethertype passes there number ether_proto_offset net_offset link_record covered half_mask prefix_mask half_of
+unfolding net6 net4 address4 halves directed ethertype passes there number ether_proto_offset net_offset link_record covered half_mask prefix_mask segment_of
 nets = (refl, refl, refl, refl, refl)
 
 -- K3: "prefix 17: second segment masked 0x8000"; K4: "prefix 0: no address byte"; "prefixes above 128 act as 128".
@@ -86,15 +86,15 @@ nots zero = 0 ∷ []
 nots (suc n) = 3 ∷ nots n
 
 -- K5: "a 30 byte frame with that source passes, its first 29 bytes drop; under Not they pass". 9, "tree deeper than 256, the root counted", comes before 16. On link 2 everything stands two bytes later.
-pub k5 : (evaluate_of (host (0 ∷ 1 ∷ 0 ∷ [])) 0 sent ≡ Judged true)
-    × (evaluate_of (host (0 ∷ 1 ∷ 0 ∷ [])) 0 (take 29 sent) ≡ Judged false)
-    × (evaluate_of (host (0 ∷ 2 ∷ 3 ∷ 0 ∷ [])) 0 (take 29 sent) ≡ Judged true)
-    × (evaluate_of (host (0 ∷ 2 ∷ 3 ∷ 0 ∷ [])) 0 sent ≡ Judged false)
-    × (evaluate_of (host (0 ∷ 1 ∷ 0 ∷ [])) 2 cooked ≡ Judged true)
-    × (evaluate_of (host (0 ∷ 1 ∷ 0 ∷ [])) 2 (take 31 cooked) ≡ Judged false)
+pub k5 : (evaluate_of (host (0 ∷ 1 ∷ 0 ∷ [])) 0 sent ≡ Given true)
+    × (evaluate_of (host (0 ∷ 1 ∷ 0 ∷ [])) 0 (take 29 sent) ≡ Given false)
+    × (evaluate_of (host (0 ∷ 2 ∷ 3 ∷ 0 ∷ [])) 0 (take 29 sent) ≡ Given true)
+    × (evaluate_of (host (0 ∷ 2 ∷ 3 ∷ 0 ∷ [])) 0 sent ≡ Given false)
+    × (evaluate_of (host (0 ∷ 1 ∷ 0 ∷ [])) 2 cooked ≡ Given true)
+    × (evaluate_of (host (0 ∷ 1 ∷ 0 ∷ [])) 2 (take 31 cooked) ≡ Given false)
     × (evaluate_of (host (0 ∷ 1 ∷ 0 ∷ [])) 3 sent ≡ Refused 1 0)
     × (evaluate_of (host (0 ∷ 0 ∷ [])) 0 sent ≡ Refused 4 0)
-    × (evaluate_of (host (1 ∷ 0 ∷ nots 255)) 0 sent ≡ Judged false)
+    × (evaluate_of (host (1 ∷ 0 ∷ nots 255)) 0 sent ≡ Given false)
     × (evaluate_of (host (1 ∷ 1 ∷ nots 256)) 0 sent ≡ Refused 9 0)
     × (evaluate_of (inbound (1 ∷ 0 ∷ nots 255)) 0 sent ≡ Refused 16 0)
     × (evaluate_of (inbound (1 ∷ 1 ∷ nots 256)) 0 sent ≡ Refused 9 0)

@@ -1,28 +1,24 @@
--- Numbers in a frame: of the widths that are read, each from its parts.
-use Rattle.std.proofs.Common.{◌≡◌, ℕ, ◌+◌, ◌*◌, ◌≤◌, Bool, List, length, get_or, sym, ap, ◌∙◌, add-zero, add_assoc, zero-add, arith}
-use lib.ListN.{get_or-eq_default}
-use Rattle.meaning.specs.Frame.{there, number}
+-- Numbers in a frame, joined byte by byte.
+use Rattle.std.proofs.Common.{◌≡◌, ℕ, ◌+◌, ◌*◌, ◌^◌, ◌<◌, ◌≤◌, List, get_or, add-zero, add-one, zero-add, arith, lit<}
+use Rattle.std.proofs.Math.Nat.{pow-le-pow_right}
+use Rattle.std.proofs.lemmas.Grind.{pow_more}
+use Rattle.meaning.specs.Frame.{number}
 
-module _ (f : List ℕ) (at : ℕ) where
-  pub number_1 : number f 1 at ≡ get_or f at 0
+module _ (f : List ℕ) where
+  pub number_1 : (at : ℕ) → number f 1 at ≡ get_or f at 0
   unfolding number
-  number_1 = simp (add-zero, zero-add)
+  number_1 at = simp (add-zero, zero-add)
 
-  pub number_past : length f ≤ at → number f 1 at ≡ 0
-  number_past h = rw (number_1, get_or-eq_default f 0 h)
-
-  pub number_2 : number f 2 at ≡ number f 1 at * 256 + number f 1 (at + 1)
+  pub number_more : (k at : ℕ) → number f (k + 1) at ≡ number f k at * 256 + number f 1 (at + k)
   unfolding number
-  number_2 = simp add_assoc (omega arith)
+  number_more k at = rw (add-one k) (simp (add-zero, zero-add))
 
-  pub number_4 : number f 4 at ≡ number f 2 at * 65536 + number f 2 (at + 2)
-  unfolding number
-  number_4 = simp add_assoc (omega arith)
+-- k bytes, and one more behind them.
+module _ (joined b k : ℕ) (h : joined < 256 ^ k) (hb : b < 256) where
+  pub grown : joined * 256 + b < 256 ^ (k + 1)
+  grown = omega (arith, pow_more 256 k)
 
-  pub number_6 : number f 6 at ≡ number f 4 at * 65536 + number f 2 (at + 4)
-  unfolding number
-  number_6 = simp add_assoc (omega arith)
-
--- What a flag tells of the bytes at a place with nothing added.
-pub flag_here : (f : List ℕ) (n at : ℕ) {r b : Bool} → r ≡ there f n (at + 0) → r ≡ b → there f n at ≡ b
-flag_here f n at e t = ap (there f n) (sym (add-zero at)) ∙ sym e ∙ t
+  pub room : k < 8 → joined * 256 + b < 2 ^ 64
+  room e =
+      let most : 256 ^ (k + 1) ≤ 256 ^ 8 = pow-le-pow_right {n = 256} (lit< tt) {i = k + 1} {j = 8} (omega arith) in
+      omega (arith, grown)

@@ -1,5 +1,4 @@
 pub mod Frames
-pub mod Numbers
 pub mod Loops
 pub mod Walks
 pub mod Parts

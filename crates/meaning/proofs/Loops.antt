@@ -1,13 +1,13 @@
 -- The loops over a byte access's steps and over the halves of an IPv6 address: what is left, one turn, the end.
-use Rattle.std.proofs.Common.{◌≡◌, ℕ, suc, ◌+◌, ◌-◌, ◌*◌, ◌<◌, ◌≤◌, Bool, true, false, eqb, List, add-one, arith, le-leb}
+use Rattle.filter.specs.Ast.{segment_of}
+use Rattle.std.proofs.Common.{◌≡◌, sym, ◌∙◌, ℕ, suc, ◌+◌, ◌-◌, ◌*◌, ◌<◌, ◌≤◌, Bool, true, false, eqb, List, add-one, arith, le-leb}
 use borrow.Author.Tests.{lt-leb}
 use lib.Bits.{bit_and}
 use Rattle.filter.specs.Record.{step_at}
 use Rattle.filter.specs.declared.ast.LinkType.{LinkType}
 use Rattle.filter.specs.declared.ast.Ipv6Addr.{Ipv6Addr}
 use Rattle.meaning.specs.Frame.{passes}
-use Rattle.meaning.specs.Meaning.{arith as step_of_lem, stepped, half_mask, half_of, halves}
-use Rattle.meaning.proofs.Numbers.{flag}
+use Rattle.meaning.specs.Meaning.{arith as step_of_lem, stepped, half_mask, halves}
 use Rattle.filter.proofs.Firsts.{suc_of}
 
 -- k of n steps from step j on are done, and the value is w
@@ -40,13 +40,13 @@ module _ (link : LinkType) (f : List ℕ) (addr : Ipv6Addr) (prefix at i : ℕ) 
   halves_end h p = rw (suc_of i 8 h, le-leb prefix (16 * i) p)
 
   abbrev pub Same : Bool → Type 0
-  Same r = r ≡ passes f 2 (at + 2 * i) (λ x. eqb (bit_and x (half_mask prefix i)) (bit_and (half_of addr i) (half_mask prefix i)))
+  Same r = r ≡ passes f 2 (at + 2 * i) (λ x. eqb (bit_and x (half_mask prefix i)) (bit_and (segment_of addr i) (half_mask prefix i)))
 
   pub halves_differ : {r : Bool} → i < 8 → 16 * i < prefix → Same r → r ≡ false → halves link f addr prefix at (8 - i) i ≡ false
   unfolding halves
-  halves_differ h p e other = rw (suc_of i 8 h, lt-leb prefix (16 * i) p, flag e other)
+  halves_differ h p e other = rw (suc_of i 8 h, lt-leb prefix (16 * i) p, sym e ∙ other)
 
   pub halves_more : {r : Bool} → i < 8 → 16 * i < prefix → Same r → r ≡ true
       → halves link f addr prefix at (8 - i) i ≡ halves link f addr prefix at (8 - (i + 1)) (i + 1)
   unfolding halves
-  halves_more h p e same = rw (suc_of i 8 h, lt-leb prefix (16 * i) p, flag e same, add-one i)
+  halves_more h p e same = rw (suc_of i 8 h, lt-leb prefix (16 * i) p, sym e ∙ same, add-one i)

@@ -1,10 +1,10 @@
 -- A sheet that passes refusals 1 to 6: its size, its one tree, and the steps that its primitives take.
 use Rattle.std.specs.Prelude.{Some}
 use Rattle.std.proofs.Common.{◌≡◌, ℕ, zero, suc, ◌+◌, ◌*◌, ◌<◌, ◌≤◌, List, length, ⊎_elim, eq-or-lt_of_le, arith}
-use Rattle.filter.specs.Sheet.{prims_part, tokens_part}
+use Rattle.filter.specs.Sheet.{counts, prims_part, tokens_part}
 use Rattle.filter.proofs.Sheets.{sized}
 use Rattle.tree.specs.Shape.{shape_of}
-use Rattle.checks.specs.declared.check.Checked.TheVariants.{Good}
+use Rattle.refusals.specs.Refusal.Answer.{Given}
 use Rattle.checks.specs.Check.{steps_before, check_of}
 use Rattle.checks.proofs.Bounds.{good, whole_shape}
 
@@ -13,7 +13,7 @@ pub record GoodParts (s : List ℕ) (a b c : ℕ) : Type 0 where
   pub tree : shape_of (tokens_part s a b c) ≡ Some b
   pub steps : steps_before (prims_part s a b) b ≡ a
 
-pub good_parts : (s : List ℕ) (link : ℕ) {a b c : ℕ} → check_of s link ≡ Good a b c → GoodParts s a b c
+pub good_parts : (s : List ℕ) (link : ℕ) {a b c : ℕ} → check_of s link ≡ Given (counts a b c) → GoodParts s a b c
 good_parts s link e =
     let t = good s link e in
     record { size = sized s t.found; tree = whole_shape _ _ t.parts.whole; steps = t.parts.taken }

@@ -5,9 +5,10 @@ use lib.Seq.{drop-append_seam}
 use Rattle.tree.specs.Tree.{Tree, flat, leaves, depth, holds}
 use Rattle.tree.specs.Tree.Tree.{leaf, and, or, inv}
 use Rattle.meaning.specs.declared.walk.Spot.{Spot}
-use Rattle.meaning.specs.declared.walk.Eval.{Eval}
-use Rattle.meaning.specs.declared.walk.Eval.TheVariants.{Done, TooDeep, Broken}
-use Rattle.meaning.specs.Walk.{join_bool, join_of, and_then, leaf_of, eval_at}
+use Rattle.refusals.specs.Refusal.{Answer}
+use Rattle.refusals.specs.Refusal.Answer.{Refused, Given}
+use Rattle.meaning.specs.declared.walk.Judged.{Judged}
+use Rattle.meaning.specs.Walk.{done, too_deep, broken, join_bool, join_of, and_then, leaf_of, eval_at}
 
 pub at_most_or_above : (m n : ℕ) → (m ≤ n) ⊎ (n < m)
 at_most_or_above m n = go (leb m n) refl
@@ -20,43 +21,33 @@ pred_of : (d : ℕ) → (d ≡ 0 → ⊥) → d ≡ suc (d - 1)
 pred_of d n = omega (arith, n)
 
 -- An answer whose next step is the first step of its next primitive.
-data Told (before : ℕ → ℕ) : Eval → Type 0 where
-  done : {h : Bool} {next : Spot} → next.step ≡ before next.prim → Told before (Done h next)
-  deep : Told before TooDeep
-  broken : Told before Broken
+abbrev Told : (ℕ → ℕ) → Answer Judged → Type 0
+Told before (Given j) = j.next.step ≡ before j.next.prim
+Told before (Refused number place) = Unit {0}
 
-told_pick : {before : ℕ → ℕ} {x y : Eval} (b : Bool) → Told before x → Told before y → Told before (cond b x y)
-told_pick true x y = x
-told_pick false x y = y
+told_pick : (before : ℕ → ℕ) (x y : Answer Judged) (b : Bool) → Told before x → Told before y → Told before (cond b x y)
+told_pick before x y true p q = p
+told_pick before x y false p q = q
 
-told_join : {before : ℕ → ℕ} {x : Eval} (t : ℕ) (a : Bool) → Told before x → Told before (join_of t a x)
-told_join t a (done e) = done e
-told_join t a deep = deep
-told_join t a broken = broken
+told_join : (before : ℕ → ℕ) (x : Answer Judged) (t : ℕ) (a : Bool) → Told before x → Told before (join_of t a x)
+told_join before (Given j) t a p = p
+told_join before (Refused number place) t a p = tt
 
-told_then : {before : ℕ → ℕ} {x : Eval} (more : Bool → Spot → Eval) → Told before x
+told_then : (before : ℕ → ℕ) (x : Answer Judged) (more : Bool → Spot → Answer Judged) → Told before x
     → ((h : Bool) (next : Spot) → next.step ≡ before next.prim → Told before (more h next)) → Told before (and_then x more)
-told_then more (done e) rest = rest _ _ e
-told_then more deep rest = deep
-told_then more broken rest = broken
-
-told_step : {before : ℕ → ℕ} {x : Eval} {h : Bool} {next : Spot} → Told before x → x ≡ Done h next → next.step ≡ before next.prim
-told_step {before} {next = next} (done {next = found} e) same =
-    let u : found ≡ next = cc in
-    subst (λ (s : Spot). s.step ≡ before s.prim) u e
-told_step deep same = let clash : ◌≡◌ {A = ℕ} 0 1 = cc in absurd (omega arith)
-told_step broken same = let clash : ◌≡◌ {A = ℕ} 0 1 = cc in absurd (omega arith)
+told_then before (Given j) more p rest = rest _ _ p
+told_then before (Refused number place) more p rest = tt
 
 module _ (verdict : ℕ → Bool) (before : ℕ → ℕ) (count : ℕ) (ts : List ℕ) where
-  abbrev pub eval : ℕ → ℕ → ℕ → Eval
+  abbrev pub eval : ℕ → ℕ → ℕ → Answer Judged
   eval d at k = eval_at verdict before count d ts at k
 
   -- One token.
-  pub walk_deep : (d at k : ℕ) → d ≡ 0 → eval d at k ≡ TooDeep
+  pub walk_deep : (d at k : ℕ) → d ≡ 0 → eval d at k ≡ too_deep
   unfolding eval_at
   walk_deep d at k e = rw e
 
-  pub walk_past : (d at k : ℕ) → (d ≡ 0 → ⊥) → length ts ≤ at → eval d at k ≡ Broken
+  pub walk_past : (d at k : ℕ) → (d ≡ 0 → ⊥) → length ts ≤ at → eval d at k ≡ broken
   unfolding eval_at
   walk_past d at k n h = rw (pred_of d n, le-leb _ _ h)
 
@@ -68,41 +59,38 @@ module _ (verdict : ℕ → Bool) (before : ℕ → ℕ) (count : ℕ) (ts : Lis
   module _ (d at k : ℕ) (n : d ≡ 0 → ⊥) (h : at < length ts) (e : get_or ts at 0 ≡ 0 → ⊥) where
     walk_node : eval d at k
         ≡ and_then (eval (d - 1) (at + 1) k) (λ a next.
-        cond (eqb (get_or ts at 0) 3) (Done (not a) next) (join_of (get_or ts at 0) a (eval (d - 1) next.token next.prim)))
+        cond (eqb (get_or ts at 0) 3) (done (not a) next) (join_of (get_or ts at 0) a (eval (d - 1) next.token next.prim)))
     unfolding eval_at
     walk_node =
         let z : suc (d - 1) - 1 ≡ d - 1 = omega arith in
         rw (pred_of d n) (simp (lt-leb _ _ h, ne_eqb _ _ e, z))
 
-    pub walk_not : {a : Bool} {next : Spot} → eval (d - 1) (at + 1) k ≡ Done a next → get_or ts at 0 ≡ 3 → eval d at k ≡ Done (not a) next
+    pub walk_not : {a : Bool} {next : Spot} → eval (d - 1) (at + 1) k ≡ done a next → get_or ts at 0 ≡ 3 → eval d at k ≡ done (not a) next
     walk_not first t = rw (walk_node, first, t)
 
-    pub walk_both : {a : Bool} {next : Spot} {r : Eval} → eval (d - 1) (at + 1) k ≡ Done a next → (get_or ts at 0 ≡ 3 → ⊥)
+    pub walk_both : {a : Bool} {next : Spot} {r : Answer Judged} → eval (d - 1) (at + 1) k ≡ done a next → (get_or ts at 0 ≡ 3 → ⊥)
         → r ≡ eval (d - 1) next.token next.prim → eval d at k ≡ join_of (get_or ts at 0) a r
     walk_both first t second = rw (walk_node, first, ne_eqb _ 3 t, ← second)
 
-    pub walk_sinks : eval (d - 1) (at + 1) k ≡ TooDeep → eval d at k ≡ TooDeep
-    walk_sinks first = rw (walk_node, first)
-
-    pub walk_breaks : eval (d - 1) (at + 1) k ≡ Broken → eval d at k ≡ Broken
-    walk_breaks first = rw (walk_node, first)
+    pub walk_stops : {number place : ℕ} → eval (d - 1) (at + 1) k ≡ Refused number place → eval d at k ≡ Refused number place
+    walk_stops first = rw (walk_node, first)
 
   told_leaf : (next k : ℕ) → Told before (leaf_of verdict before count next k)
   unfolding leaf_of
-  told_leaf next k = told_pick (ltb k count) (done refl) broken
+  told_leaf next k = told_pick before (done (verdict k) (record { token = next; prim = k + 1; step = before (k + 1) })) broken (ltb k count) refl tt
 
   told_at : (d at k : ℕ) → Told before (eval d at k)
   unfolding eval_at
-  told_at zero at k = deep
+  told_at zero at k = tt
   told_at (suc d) at k =
-      told_pick (leb (length ts) at) broken
-      (told_pick (eqb (get_or ts at 0) 0) (told_leaf (at + 1) k)
-      (told_then _ (told_at d (at + 1) k) (λ h next e.
-      told_pick (eqb (get_or ts at 0) 3) (done e) (told_join (get_or ts at 0) h (told_at d next.token next.prim)))))
+      told_pick before broken _ (leb (length ts) at) tt
+      (told_pick before _ _ (eqb (get_or ts at 0) 0) (told_leaf (at + 1) k)
+      (told_then before (eval d (at + 1) k) _ (told_at d (at + 1) k) (λ h next e.
+      told_pick before (done (not h) next) _ (eqb (get_or ts at 0) 3) e (told_join before (eval d next.token next.prim) (get_or ts at 0) h (told_at d next.token next.prim)))))
 
   -- The next step is the first step of the next primitive.
-  pub next_step : (d at k : ℕ) {h : Bool} {next : Spot} → eval d at k ≡ Done h next → next.step ≡ before next.prim
-  next_step d at k e = told_step (told_at d at k) e
+  pub next_step : (d at k : ℕ) {j : Judged} → eval d at k ≡ Given j → j.next.step ≡ before j.next.prim
+  next_step d at k {j} e = subst (Told before) e (told_at d at k)
 
   -- The tokens from a place on.
   here : (at t : ℕ) (r : List ℕ) → drop at ts ≡ t ∷ r → at < length ts
@@ -122,12 +110,12 @@ module _ (verdict : ℕ → Bool) (before : ℕ → ℕ) (count : ℕ) (ts : Lis
 
   -- A tree whose tokens begin at a place, with what stands behind them.
   abbrev pub Found : Tree → ℕ → ℕ → ℕ → Type 0
-  Found t d at k = eval d at k ≡ Done (holds verdict t k) (behind (at + length (flat t)) (k + leaves t))
+  Found t d at k = eval d at k ≡ done (holds verdict t k) (behind (at + length (flat t)) (k + leaves t))
 
   two : (tok : ℕ) (a b : Tree) (d at k : ℕ) (r : List ℕ) → (tok ≡ 0 → ⊥) → (tok ≡ 3 → ⊥) → (d ≡ 0 → ⊥)
       → drop at ts ≡ tok ∷ r → Found a (d - 1) (at + 1) k → Found b (d - 1) (at + 1 + length (flat a)) (k + leaves a)
       → eval d at k
-      ≡ Done (join_bool tok (holds verdict a k) (holds verdict b (k + leaves a))) (behind (at + suc (length (flat a ++ flat b))) (k + (leaves a + leaves b)))
+      ≡ done (join_bool tok (holds verdict a k) (holds verdict b (k + leaves a))) (behind (at + suc (length (flat a ++ flat b))) (k + (leaves a + leaves b)))
   two tok a b d at k r n0 n3 nd e ea eb =
       let tk = token at tok r e in
       let z : at + 1 + length (flat a) + length (flat b) ≡ at + suc (length (flat a ++ flat b)) = omega (arith, length-append (flat a) (flat b)) in
@@ -135,14 +123,14 @@ module _ (verdict : ℕ → Bool) (before : ℕ → ℕ) (count : ℕ) (ts : Lis
       walk_both d at k nd (here at tok r e) (λ q. n0 (sym tk ∙ q)) ea (λ q. n3 (sym tk ∙ q)) (sym eb) ∙ rw (tk, z, v)
 
   one : (a : Tree) (d at k : ℕ) (r : List ℕ) → (d ≡ 0 → ⊥) → drop at ts ≡ 3 ∷ r → Found a (d - 1) (at + 1) k
-      → eval d at k ≡ Done (not (holds verdict a k)) (behind (at + suc (length (flat a))) (k + leaves a))
+      → eval d at k ≡ done (not (holds verdict a k)) (behind (at + suc (length (flat a))) (k + leaves a))
   one a d at k r nd e ea =
       let tk = token at 3 r e in
       let z : at + 1 + length (flat a) ≡ at + suc (length (flat a)) = omega arith in
       walk_not d at k nd (here at 3 r e) (λ q. omega arith) ea tk ∙ rw z
 
   lone : (d at k : ℕ) (r : List ℕ) → (d ≡ 0 → ⊥) → drop at ts ≡ 0 ∷ r → k < count
-      → eval d at k ≡ Done (verdict k) (behind (at + 1) (k + 1))
+      → eval d at k ≡ done (verdict k) (behind (at + 1) (k + 1))
   unfolding leaf_of
   lone d at k r nd e l = rw (walk_leaf d at k nd (here at 0 r e) (token at 0 r e), lt-ltb k count l)
 
@@ -165,17 +153,17 @@ module _ (verdict : ℕ → Bool) (before : ℕ → ℕ) (count : ℕ) (ts : Lis
 
   -- Its first operand is too deep.
   deep_first : (tok d at k : ℕ) (r : List ℕ) → (tok ≡ 0 → ⊥) → drop at ts ≡ tok ∷ r
-      → ((d ≡ 0 → ⊥) → eval (d - 1) (at + 1) k ≡ TooDeep) → eval d at k ≡ TooDeep
+      → ((d ≡ 0 → ⊥) → eval (d - 1) (at + 1) k ≡ too_deep) → eval d at k ≡ too_deep
   deep_first tok d at k r n0 e ea =
       ⊎_elim (λ z. walk_deep d at k z)
       (λ p.
       let nd : d ≡ 0 → ⊥ = λ q. omega arith in
       let tk = token at tok r e in
-      walk_sinks d at k nd (here at tok r e) (λ q. n0 (sym tk ∙ q)) (ea nd))
+      walk_stops d at k nd (here at tok r e) (λ q. n0 (sym tk ∙ q)) (ea nd))
       (eq-zero-or-pos d)
 
   deep_second : (tok : ℕ) (a : Tree) (d at k : ℕ) (r : List ℕ) → (tok ≡ 0 → ⊥) → (tok ≡ 3 → ⊥) → drop at ts ≡ tok ∷ r → (d ≡ 0 → ⊥)
-      → Found a (d - 1) (at + 1) k → eval (d - 1) (at + 1 + length (flat a)) (k + leaves a) ≡ TooDeep → eval d at k ≡ TooDeep
+      → Found a (d - 1) (at + 1) k → eval (d - 1) (at + 1 + length (flat a)) (k + leaves a) ≡ too_deep → eval d at k ≡ too_deep
   deep_second tok a d at k r n0 n3 e nd ea eb =
       let tk = token at tok r e in
       walk_both d at k nd (here at tok r e) (λ q. n0 (sym tk ∙ q)) ea (λ q. n3 (sym tk ∙ q)) (sym eb)
@@ -183,9 +171,9 @@ module _ (verdict : ℕ → Bool) (before : ℕ → ℕ) (count : ℕ) (ts : Lis
   deep_two : (tok : ℕ) (a b : Tree) (d at k : ℕ) (r : List ℕ) → (tok ≡ 0 → ⊥) → (tok ≡ 3 → ⊥)
       → drop at ts ≡ tok ∷ ((flat a ++ flat b) ++ r) → drop (at + 1) ts ≡ flat a ++ (flat b ++ r)
       → k + (leaves a + leaves b) ≤ count → d < suc (max (depth a) (depth b))
-      → (d - 1 < depth a → eval (d - 1) (at + 1) k ≡ TooDeep)
-      → (d - 1 < depth b → eval (d - 1) (at + 1 + length (flat a)) (k + leaves a) ≡ TooDeep)
-      → eval d at k ≡ TooDeep
+      → (d - 1 < depth a → eval (d - 1) (at + 1) k ≡ too_deep)
+      → (d - 1 < depth b → eval (d - 1) (at + 1 + length (flat a)) (k + leaves a) ≡ too_deep)
+      → eval d at k ≡ too_deep
   deep_two tok a b d at k r n0 n3 e ra l g fa fb =
       ⊎_elim
       (λ h.
@@ -199,7 +187,7 @@ module _ (verdict : ℕ → Bool) (before : ℕ → ℕ) (count : ℕ) (ts : Lis
       (at_most_or_above (depth a) (d - 1))
 
   -- A tree that is too deep.
-  pub walk_too_deep : (t : Tree) (d at k : ℕ) (r : List ℕ) → drop at ts ≡ flat t ++ r → k + leaves t ≤ count → d < depth t → eval d at k ≡ TooDeep
+  pub walk_too_deep : (t : Tree) (d at k : ℕ) (r : List ℕ) → drop at ts ≡ flat t ++ r → k + leaves t ≤ count → d < depth t → eval d at k ≡ too_deep
   unfolding flat leaves depth
   walk_too_deep leaf d at k r e l g = walk_deep d at k (omega arith)
   walk_too_deep (and a b) d at k r e l g =

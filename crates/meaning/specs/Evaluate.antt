@@ -9,10 +9,9 @@ use Rattle.checks.specs.Check.{steps_before, check_of}
 use Rattle.checks.specs.Refusal.{refusal_at}
 use Rattle.meaning.specs.Meaning.{means}
 use Rattle.filter.specs.declared.ast.LinkType.{LinkType}
-use Rattle.checks.specs.declared.check.Checked as checked
-use Rattle.checks.specs.declared.check.Checked.TheVariants as answer
-use Rattle.meaning.specs.declared.evaluate.Verdict.{Verdict}
-use Rattle.meaning.specs.declared.evaluate.Verdict.TheVariants.{Refused, Judged}
+use Rattle.refusals.specs.Refusal.{Answer}
+use Rattle.refusals.specs.Refusal.Answer.{Refused, Given}
+use Rattle.filter.specs.declared.sheet.Counts.{Counts}
 
 -- Primitive k of the section, with the steps that it takes.
 unfoldable pub primitive_holds : LinkType → List ℕ → List ℕ → List ℕ → ℕ → Bool
@@ -27,18 +26,19 @@ unfoldable pub first_refused : LinkType → List ℕ → List ℕ → ℕ → �
 first_refused link steps prims b = first (λ k. not (refusal_at link steps prims k == 0)) b 0
 
 -- Refusal 9: "tree deeper than 256, the root counted"; then 11 to 19; else the verdict.
-unfoldable pub judge : LinkType → List ℕ → List ℕ → List ℕ → ℕ → List ℕ → Verdict
+unfoldable pub judge : LinkType → List ℕ → List ℕ → List ℕ → ℕ → List ℕ → Answer Bool
 judge link steps prims tokens b f =
     cond (nat_lt 256 (depth (tree_of tokens))) (Refused 9 0)
     (cond (nat_lt (first_refused link steps prims b) b)
     (Refused (refusal_at link steps prims (first_refused link steps prims b)) (first_refused link steps prims b))
-    (Judged (expression_holds link steps prims tokens f)))
+    (Given (expression_holds link steps prims tokens f)))
 
 -- "gives 1 (link) to 6, 9, then 11 to 19 for the first primitive".
-unfoldable pub evaluated : checked.Checked → LinkType → List ℕ → List ℕ → Verdict
-evaluated (answer.Refused number place) link s f = Refused number place
-evaluated (answer.Good a b c) link s f = judge link (steps_part s a) (prims_part s a b) (tokens_part s a b c) b f
+unfoldable pub evaluated : Answer Counts → LinkType → List ℕ → List ℕ → Answer Bool
+evaluated (Refused number place) link s f = Refused number place
+evaluated (Given n) link s f =
+    judge link (steps_part s n.steps) (prims_part s n.steps n.prims) (tokens_part s n.steps n.prims n.tokens) n.prims f
 
 -- The evaluator: any sheet, any link, any frame.
-unfoldable pub evaluate_of : List ℕ → ℕ → List ℕ → Verdict
+unfoldable pub evaluate_of : List ℕ → ℕ → List ℕ → Answer Bool
 evaluate_of s link f = evaluated (check_of s link) (link_of link) s f

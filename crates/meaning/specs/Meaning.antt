@@ -1,7 +1,7 @@
 -- What each test means: document 01, "What each test means", sentence by sentence. A test that is refused means nothing: what stands here for it is never asked.
 use Rattle.std.specs.Prelude.{ℕ, zero, suc, ◌+◌, ◌-◌, ◌*◌, ◌/◌, ◌%◌, ◌^◌, Bool, true, false, cond, not, ◌&&◌, ◌||◌, List, length, ◌==◌, bit_and, bit_or, bit_xor, nat_eq, nat_le, nat_lt, Option, Some, None}
 use Rattle.filter.specs.Prefix.{prefix_mask}
-use Rattle.filter.specs.Ast.{ether_proto_offset, net_offset}
+use Rattle.filter.specs.Ast.{ether_proto_offset, net_offset, bytes_of, segment_of}
 use Rattle.filter.specs.Record.{step_at}
 use Rattle.meaning.specs.Frame.{there, number, passes}
 use Rattle.filter.specs.declared.ast.LinkType.{LinkType}
@@ -15,8 +15,6 @@ use Rattle.filter.specs.declared.ast.ArithOp.{ArithOp}
 use Rattle.filter.specs.declared.ast.ArithOp.TheVariants.{Add, Sub, Mul, Div, Mod, And, Or, Xor, Shl, Shr}
 use Rattle.filter.specs.declared.ast.CmpOp.{CmpOp}
 use Rattle.filter.specs.declared.ast.CmpOp.TheVariants.{Eq, Ne, Lt, Le, Gt, Ge, BitAnd}
-use Rattle.filter.specs.declared.ast.AccessSize.{AccessSize}
-use Rattle.filter.specs.declared.ast.AccessSize.TheVariants.{Byte, Half, Word}
 use Rattle.filter.specs.declared.ast.Layer as layers
 use Rattle.filter.specs.declared.ast.Layer.TheVariants as layer
 use Rattle.filter.specs.declared.ast.CmpRhs.{CmpRhs}
@@ -60,11 +58,6 @@ compared Gt v k = nat_lt k v
 compared Ge v k = nat_le k v
 compared BitAnd v k = not (bit_and v k == 0)
 
-unfoldable pub bytes_of : AccessSize → ℕ
-bytes_of Byte = 1
-bytes_of Half = 2
-bytes_of Word = 4
-
 -- "prefixes above 128 act as 128": of half i, so many bits lie under the prefix.
 unfoldable pub covered : ℕ → ℕ → ℕ
 covered prefix i = cond (nat_le (16 * i + 16) prefix) 16 (prefix - 16 * i)
@@ -72,10 +65,6 @@ covered prefix i = cond (nat_le (16 * i + 16) prefix) 16 (prefix - 16 * i)
 -- The mask of half i: its covered bits are ones, the others zeros.
 unfoldable pub half_mask : ℕ → ℕ → ℕ
 half_mask prefix i = prefix_mask (covered prefix i)
-
--- Half i of an address, from 0 to 7.
-unfoldable pub half_of : Ipv6Addr → ℕ → ℕ
-half_of addr i = cond (nat_lt i 4) (addr.hi / 2 ^ (16 * (3 - i)) % 65536) (addr.lo / 2 ^ (16 * (7 - i)) % 65536)
 
 -- "protocol as given": those that ports are asked with; others are refused.
 unfoldable pub given : protos.Proto → ℕ → Bool
@@ -162,7 +151,7 @@ module _ (link : LinkType) (f : List ℕ) where
   halves addr prefix at zero i = true
   halves addr prefix at (suc n) i =
       cond (nat_le prefix (16 * i)) true
-      (passes f 2 (at + 2 * i) (λ h. nat_eq (bit_and h (half_mask prefix i)) (bit_and (half_of addr i) (half_mask prefix i)))
+      (passes f 2 (at + 2 * i) (λ h. nat_eq (bit_and h (half_mask prefix i)) (bit_and (segment_of addr i) (half_mask prefix i)))
       && halves addr prefix at n (suc i))
 
   -- "source net+8, destination net+24".

@@ -1,19 +1,21 @@
 // Byte access: the load, its steps, the comparison.
+#![tactic(auto, unfolding(crate::specs::Meaning::arith, crate::specs::Meaning::compared, filter::specs::Ast::bytes_of, crate::specs::Meaning::access_at, crate::specs::Meaning::access_layer, crate::specs::Meaning::byte_access, crate::specs::Frame::passes))]
+
+ghost use Rattle.filter.specs.Ast.{bytes_of};
 ghost use Rattle.std.specs.Prelude.{◌≡◌, ◌+◌, ◌*◌, ◌%◌, ◌^◌};
-ghost use Rattle.filter.specs.Record.{step_at};
 ghost use Rattle.meaning.specs.Frame.{number};
-ghost use Rattle.meaning.specs.Meaning.{arith, stepped, compared, bytes_of, access_at, access_layer, byte_access};
+ghost use Rattle.meaning.specs.Meaning.{arith, stepped, compared, access_at, byte_access};
 
 use crate::frame::{byte_at, half_at, has, word_at};
-use crate::ports::start4;
-use filter::ast::{AccessSize, ArithOp, ByteAccess, CmpOp, CmpRhs, Layer, LinkType};
+use crate::packet::Packet;
+use filter::ast::{AccessSize, ArithOp, ByteAccess, CmpOp, CmpRhs, Layer, Step};
 use filter::record::step_at;
 
-// The product modulo 2^32, through 64 bits.
+// The product modulo 2^32, through 64 bits: a helper, as document 01 has it. ebpf's is in a crate that this one does not stand on.
 fn mul32(v: u32, k: u32) -> u32
     ensures { result ≡ v * k % 2 ^ 32 }
 {
-    ((v as u64) * (k as u64) % 0x1_0000_0000) as u32
+    (v as u64 * k as u64 % 0x1_0000_0000) as u32
 }
 
 // Sums, differences, products and shifts wrap on purpose.
@@ -21,37 +23,27 @@ pub fn arith(op: ArithOp, v: u32, k: u32) -> u32
     ensures { result ≡ arith op v k }
 {
     match op {
-        ArithOp::Add => std::num::wrapping_add_u32(v, k),
-        ArithOp::Sub => std::num::wrapping_sub_u32(v, k),
+        ArithOp::Add => v.wrapping_add(k),
+        ArithOp::Sub => v.wrapping_sub(k),
         ArithOp::Mul => mul32(v, k),
-        ArithOp::Div => if k == 0 { 0 } else { v / k },
+        ArithOp::Div => v.checked_div(k).unwrap_or(0),
         ArithOp::Mod => v,
         ArithOp::And => v & k,
         ArithOp::Or => v | k,
         ArithOp::Xor => v ^ k,
-        ArithOp::Shl => v << (k % 32),
-        ArithOp::Shr => v >> (k % 32),
+        ArithOp::Shl => v.wrapping_shl(k),
+        ArithOp::Shr => v.wrapping_shr(k),
     }
 }
 
-// The step k places after step j.
-fn one_step(steps: &[u8], j: u32, k: u16, v: u32) -> u32
-    ensures { result ≡ arith (step_at steps.now (5 * (j + k))).op v (step_at steps.now (5 * (j + k))).operand }
-{
-    let s = step_at(steps, j, k);
-    let op = s.op;
-    arith(op, v, s.operand)
-}
-
-// What n steps from step j on make of v.
+// What n steps from step j on make of v. The part and n stay two: the promise holds for any n, also where the part has fewer or more.
 pub fn stepped(steps: &[u8], n: u16, j: u32, v: u32) -> u32
     ensures { result ≡ stepped steps.now n j v }
 {
     let mut w = v;
-    let mut k: u16 = 0;
-    while k < n {
-        w = one_step(steps, j, k, w);
-        k += 1;
+    for k in 0..n {
+        let Step { op, operand } = step_at(steps, j, k);
+        w = arith(op, w, operand);
     }
     w
 }
@@ -71,16 +63,6 @@ pub fn compared(op: CmpOp, v: u64, k: u64) -> bool
     }
 }
 
-fn bytes_of(size: AccessSize) -> u8
-    ensures { result ≡ bytes_of size }
-{
-    match size {
-        AccessSize::Byte => 1,
-        AccessSize::Half => 2,
-        AccessSize::Word => 4,
-    }
-}
-
 fn loaded(frame: &[u8], size: AccessSize, base: u32, past: u32) -> u32
     ensures { result ≡ number frame.now (bytes_of size) (base + past) }
 {
@@ -91,52 +73,33 @@ fn loaded(frame: &[u8], size: AccessSize, base: u32, past: u32) -> u32
     }
 }
 
-fn access_at(
-    link: LinkType,
-    frame: &[u8],
-    steps: &[u8],
-    j: u32,
-    x: ByteAccess,
-    k: u32,
-    base: u32,
-) -> bool
-    ensures { result ≡ access_at link frame.now steps.now j x k base }
-{
-    let size = x.size;
-    let past = x.offset;
-    let n = x.steps;
-    let op = x.op;
-    if has(frame, bytes_of(size), base, past) {
-        let v = stepped(steps, n, j, loaded(frame, size, base, past));
-        compared(op, v as u64, k as u64)
-    } else {
-        false
+impl Packet<'_> {
+    // What an access to `base` means, its comparison being with k.
+    // `steps` and `j` stay two: the part is all primitives', `j` counts on over them, and a struct would be built anew for each.
+    fn access_at(self, steps: &[u8], j: u32, x: ByteAccess, k: u32, base: u32) -> bool
+        ensures { result ≡ access_at self.entry.link self.entry.frame.now steps.now j x k base }
+    {
+        has(self.frame, x.size.bytes(), base, x.offset)
+            && {
+                let v = loaded(self.frame, x.size, base, x.offset);
+                compared(x.op, stepped(steps, x.steps, j, v) as u64, k as u64)
+            }
     }
-}
 
-fn access_layer(link: LinkType, frame: &[u8], steps: &[u8], j: u32, x: ByteAccess, k: u32) -> bool
-    ensures { result ≡ access_layer link frame.now steps.now j x.layer x k }
-{
-    let layer = x.layer;
-    let net = link.net_offset();
-    match layer {
-        Layer::Raw => access_at(link, frame, steps, j, x, k, 0),
-        Layer::Net => access_at(link, frame, steps, j, x, k, net),
-        Layer::Trans => if has(frame, 1, net, 0) {
-            access_at(link, frame, steps, j, x, k, start4(link, frame))
-        } else {
-            false
-        },
-    }
-}
-
-// The access's steps start at step j.
-pub fn byte_access(link: LinkType, frame: &[u8], steps: &[u8], j: u32, x: ByteAccess) -> bool
-    ensures { result ≡ byte_access link frame.now steps.now j x }
-{
-    let rhs = x.rhs;
-    match rhs {
-        CmpRhs::Const(k) => access_layer(link, frame, steps, j, x, k),
-        CmpRhs::Load(_) => false,
+    // The access's steps start at step j.
+    pub fn byte_access(self, steps: &[u8], j: u32, x: ByteAccess) -> bool
+        ensures { result ≡ byte_access self.entry.link self.entry.frame.now steps.now j x }
+    {
+        let CmpRhs::Const(k) = x.rhs else {
+            return false;
+        };
+        let net = self.link.net_offset();
+        match x.layer {
+            Layer::Raw => self.access_at(steps, j, x, k, 0),
+            Layer::Net => self.access_at(steps, j, x, k, net),
+            Layer::Trans => {
+                has(self.frame, 1, net, 0) && self.access_at(steps, j, x, k, self.start4())
+            }
+        }
     }
 }

@@ -1,109 +1,79 @@
 // Tests of the link's header: ethertype, MAC addresses, and what stands behind a tag.
-ghost use Rattle.std.specs.Prelude.{◌≡◌, ◌/◌, ◌%◌, ◌||◌, nat_eq};
+#![tactic(auto, unfolding(crate::specs::Meaning::ethertype, crate::specs::Meaning::tagged, crate::specs::Meaning::ether_host, crate::specs::Meaning::vlan, crate::specs::Meaning::mpls, crate::specs::Meaning::pppoe))]
+
+ghost use Rattle.std.specs.Prelude.{ℕ, Bool, ◌≡◌, ◌≤◌, ◌||◌};
+ghost use Rattle.meaning.specs.Frame.{Answers};
 ghost use Rattle.meaning.specs.Meaning.{ethertype, tagged, ether_host, vlan, mpls, pppoe};
 
-use crate::frame::{half_at, half_is, has, mac_is, word_at};
+use crate::frame::{half_is, mac_is, passes};
+use crate::packet::Packet;
 use crate::side::directed;
-use filter::ast::{Dir, LinkType};
+use filter::ast::Dir;
 
-pub fn ethertype(link: LinkType, frame: &[u8], x: u16) -> bool
-    ensures { result ≡ ethertype link frame.now x }
-{
-    match link.ether_proto_offset() {
-        Some(at) => half_is(frame, at, 0, x),
-        None => x == 0x0800,
+impl Packet<'_> {
+    pub fn ethertype(self, x: u16) -> bool
+        ensures { result ≡ ethertype self.entry.link self.entry.frame.now x }
+    {
+        match self.link.ether_proto_offset() {
+            Some(at) => half_is(self.frame, at, 0, x),
+            None => x == 0x0800,
+        }
     }
-}
 
-pub fn ether_host(link: LinkType, frame: &[u8], addr: u64, dir: Dir) -> bool
-    ensures { result ≡ ether_host link frame.now addr dir }
-{
-    directed(dir, mac_is(frame, 6, 0, addr), mac_is(frame, 0, 0, addr))
-}
-
-// The low 12 bits of the half behind the tag's ethertype.
-fn tag_id(link: LinkType, frame: &[u8], n: u16) -> bool
-    ensures { result ≡ tagged link frame.now 2 2 (λ h. nat_eq n (h % 4096)) }
-{
-    match link.ether_proto_offset() {
-        Some(at) => if has(frame, 2, at, 2) {
-            n == half_at(frame, at, 2) % 4096
-        } else {
-            false
-        },
-        None => false,
+    pub fn ether_host(self, addr: u64, dir: Dir) -> bool
+        ensures { result ≡ ether_host self.entry.link self.entry.frame.now addr dir }
+    {
+        let mac = |at| mac_is(self.frame, at, 0, addr);
+        directed(dir, mac(6), mac(0))
     }
-}
 
-pub fn vlan(link: LinkType, frame: &[u8], id: Option<u16>) -> bool
-    ensures { result ≡ vlan link frame.now id }
-{
-    match id {
-        None => ethertype(link, frame, 0x8100),
-        Some(n) => if ethertype(link, frame, 0x8100) {
-            tag_id(link, frame, n)
-        } else {
-            false
-        },
+    // Whether the n bytes, so many bytes past the ethertype field, pass a test.
+    fn tagged<F: Fn(u64) -> bool>(self, n: u8, past: u32, test: F) -> bool
+        requires long { n ≤ 8 }
+        requires test { F.IsAlwaysCallable test }
+        ensures { (asked : ℕ → Bool) → Answers (F.post test) asked → result ≡ tagged self.entry.link self.entry.frame.now n past asked }
+    {
+        match self.link.ether_proto_offset() {
+            Some(at) => passes(self.frame, n, at, past, test),
+            None => false,
+        }
     }
-}
 
-// The top 20 bits of the word behind the ethertype.
-fn top_label(link: LinkType, frame: &[u8], n: u32) -> bool
-    ensures { result ≡ tagged link frame.now 4 2 (λ w. nat_eq n (w / 4096)) }
-{
-    match link.ether_proto_offset() {
-        Some(at) => if has(frame, 4, at, 2) {
-            n == word_at(frame, at, 2) / 4096
-        } else {
-            false
-        },
-        None => false,
+    // The tag's number is the low 12 bits of the half behind its ethertype.
+    pub fn vlan(self, id: Option<u16>) -> bool
+        ensures { result ≡ vlan self.entry.link self.entry.frame.now id }
+    {
+        match id {
+            None => self.ethertype(0x8100),
+            Some(n) => { self.ethertype(0x8100) && self.tagged(2, 2, |h| n as u64 == h % 4096) }
+        }
     }
-}
 
-// Unicast or multicast.
-fn is_mpls(link: LinkType, frame: &[u8]) -> bool
-    ensures { result ≡ (ethertype link frame.now 0x8847 || ethertype link frame.now 0x8848) }
-{
-    if ethertype(link, frame, 0x8847) {
-        true
-    } else {
-        ethertype(link, frame, 0x8848)
+    // Unicast or multicast.
+    fn is_mpls(self) -> bool
+        ensures { result ≡ (ethertype self.entry.link self.entry.frame.now 0x8847 || ethertype self.entry.link self.entry.frame.now 0x8848) }
+    {
+        self.ethertype(0x8847) || self.ethertype(0x8848)
     }
-}
 
-pub fn mpls(link: LinkType, frame: &[u8], label: Option<u32>) -> bool
-    ensures { result ≡ mpls link frame.now label }
-{
-    match label {
-        None => is_mpls(link, frame),
-        Some(n) => if is_mpls(link, frame) {
-            top_label(link, frame, n)
-        } else {
-            false
-        },
+    // The label is the top 20 bits of the word behind the ethertype.
+    pub fn mpls(self, label: Option<u32>) -> bool
+        ensures { result ≡ mpls self.entry.link self.entry.frame.now label }
+    {
+        match label {
+            None => self.is_mpls(),
+            Some(n) => { self.is_mpls() && self.tagged(4, 2, |w| n as u64 == w / 4096) }
+        }
     }
-}
 
-fn session_id(link: LinkType, frame: &[u8], n: u16) -> bool
-    ensures { result ≡ tagged link frame.now 2 4 (nat_eq n) }
-{
-    match link.ether_proto_offset() {
-        Some(at) => half_is(frame, at, 4, n),
-        None => false,
-    }
-}
-
-pub fn pppoe(link: LinkType, frame: &[u8], id: Option<u16>) -> bool
-    ensures { result ≡ pppoe link frame.now id }
-{
-    match id {
-        None => ethertype(link, frame, 0x8864),
-        Some(n) => if ethertype(link, frame, 0x8864) {
-            session_id(link, frame, n)
-        } else {
-            false
-        },
+    pub fn pppoe(self, id: Option<u16>) -> bool
+        ensures { result ≡ pppoe self.entry.link self.entry.frame.now id }
+    {
+        match id {
+            None => self.ethertype(0x8864),
+            Some(n) => {
+                self.ethertype(0x8864) && self.tagged(2, 4, |session| n as u64 == session)
+            }
+        }
     }
 }

@@ -6,6 +6,7 @@ pub mod ether;
 pub mod evaluate;
 pub mod frame;
 pub mod network;
+pub mod packet;
 pub mod ports;
 pub mod primitive;
 pub mod side;

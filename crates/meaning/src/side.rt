@@ -1,4 +1,6 @@
 // Source, destination, either, both.
+#![tactic(auto, unfolding(crate::specs::Meaning::directed))]
+
 ghost use Rattle.std.specs.Prelude.{◌≡◌};
 ghost use Rattle.meaning.specs.Meaning.{directed};
 
@@ -8,9 +10,9 @@ pub fn directed(dir: Dir, source: bool, destination: bool) -> bool
     ensures { result ≡ directed dir source destination }
 {
     match dir {
-        Dir::SrcOrDst => if source { true } else { destination },
+        Dir::SrcOrDst => source || destination,
         Dir::Src => source,
         Dir::Dst => destination,
-        Dir::SrcAndDst => if source { destination } else { false },
+        Dir::SrcAndDst => source && destination,
     }
 }

@@ -1,17 +1,21 @@
 // The tree of the tokens, judged from the front: each operand is a run of tokens of its own, one level deeper.
-ghost use Rattle.std.specs.Prelude.{◌≡◌, ◌^◌, ◌<◌, not};
+#![tactic(auto, unfolding(crate::specs::Walk::join_bool))]
+
+ghost use Rattle.std.specs.Prelude.{◌≡◌, ◌^◌, ◌<◌};
+ghost use Rattle.refusals.specs.Refusal.{told};
 ghost use Rattle.checks.specs.Check.{steps_before};
 ghost use Rattle.meaning.specs.Evaluate.{primitive_holds};
-ghost use Rattle.meaning.specs.declared.walk.Eval.TheVariants.{Done};
-ghost use Rattle.meaning.specs.Walk.{join_bool, join_of, leaf_of, eval_at};
+ghost use Rattle.meaning.specs.Walk.{join_bool, leaf_of, eval_at};
 
-use crate::primitive::means;
+use crate::packet::Packet;
 use checks::check::takes_steps;
 use filter::ast::LinkType;
 use filter::record::primitive_at;
+use filter::sheet::Sections;
+use refusals::{Reason, Refusal};
 
 // A token, with the primitive and the step that come next there.
-#[derive(Clone, Copy)]
+#[derive(Clone, Copy, PartialEq, Eq)]
 pub struct Spot {
     pub token: usize,
     pub prim: u32,
@@ -19,104 +23,81 @@ pub struct Spot {
 }
 
 // A tree's value, and where the tokens after it begin.
-#[derive(Clone, Copy)]
-pub enum Eval {
-    Done { holds: bool, next: Spot },
-    TooDeep,
-    Broken,
+#[derive(Clone, Copy, PartialEq, Eq)]
+pub struct Judged {
+    pub holds: bool,
+    pub next: Spot,
 }
 
 fn join_bool(t: u8, a: bool, b: bool) -> bool
     ensures { result ≡ join_bool t a b }
 {
-    if t == 1 {
-        if a { b } else { false }
-    } else {
-        if a { true } else { b }
-    }
-}
-
-fn denied(a: bool, next: Spot) -> Eval
-    ensures { result ≡ Done (not a) next }
-{
-    Eval::Done { holds: !a, next }
-}
-
-// And or Or of a value and what the second operand gives.
-fn join(t: u8, a: bool, second: Eval) -> Eval
-    ensures { result ≡ join_of t a second }
-{
-    match second {
-        Eval::Done { holds, next } => Eval::Done {
-            holds: join_bool(t, a, holds),
-            next,
-        },
-        Eval::TooDeep => Eval::TooDeep,
-        Eval::Broken => Eval::Broken,
-    }
+    if t == 1 { a && b } else { a || b }
 }
 
 // The next primitive, of `count`, whose token is read already.
-fn leaf_at(link: LinkType, steps: &[u8], prims: &[u8], frame: &[u8], count: u16, spot: Spot) -> Eval
-    requires { (spot.step ≡ steps_before prims.now spot.prim) × (steps_before prims.now count < 2 ^ 32) }
-    ensures { result ≡ leaf_of (primitive_holds link steps.now prims.now frame.now) (steps_before prims.now) count spot.token spot.prim }
+fn leaf_at(
+    link: LinkType,
+    parts: Sections,
+    frame: &[u8],
+    count: u16,
+    spot: Spot,
+) -> Result<Judged, Refusal>
+    requires { (spot.step ≡ steps_before parts.prims.now spot.prim) × (steps_before parts.prims.now count < 2 ^ 32) }
+    ensures { told result ≡ leaf_of (primitive_holds link parts.entry.steps.now parts.entry.prims.now frame.now) (steps_before parts.entry.prims.now) count spot.token spot.prim }
 {
     let k = spot.prim;
-    let from = spot.step;
-    let token = spot.token;
-    if k < count as u32 {
-        let prim = primitive_at(prims, k);
-        let holds = means(link, frame, steps, from, prim);
-        let taken = takes_steps(prims, k) as u32;
-        Eval::Done {
-            holds,
-            next: Spot {
-                token,
-                prim: k + 1,
-                step: from + taken,
-            },
-        }
-    } else {
-        Eval::Broken
+    if u32::from(count) <= k {
+        return Err(Reason::NotOneTree.at(0));
     }
+    let prim = primitive_at(parts.prims, k);
+    let holds = Packet { link, frame }.means(parts.steps, spot.step, prim);
+    let taken = u32::from(takes_steps(parts.prims, k));
+    let next = Spot {
+        token: spot.token,
+        prim: k + 1,
+        step: spot.step + taken,
+    };
+    Ok(Judged { holds, next })
 }
 
-// The tree that begins at the spot, of at most `depth` levels.
+// The tree that begins at the spot, of at most `depth` levels; 9 if it is deeper, and 4, which is never met where the tokens are one tree.
 pub(crate) fn eval_at(
     link: LinkType,
-    steps: &[u8],
-    prims: &[u8],
-    tokens: &[u8],
+    parts: Sections,
     frame: &[u8],
     count: u16,
     spot: Spot,
     depth: u16,
-) -> Eval
-    requires { (spot.step ≡ steps_before prims.now spot.prim) × (steps_before prims.now count < 2 ^ 32) }
-    ensures { result ≡ eval_at (primitive_holds link steps.now prims.now frame.now) (steps_before prims.now) count depth tokens.now spot.token spot.prim }
+) -> Result<Judged, Refusal>
+    requires { (spot.step ≡ steps_before parts.prims.now spot.prim) × (steps_before parts.prims.now count < 2 ^ 32) }
+    ensures { told result ≡ eval_at (primitive_holds link parts.entry.steps.now parts.entry.prims.now frame.now) (steps_before parts.entry.prims.now) count depth parts.entry.tokens.now spot.token spot.prim }
 {
     if depth == 0 {
-        return Eval::TooDeep;
+        return Err(Reason::DeepTree.at(0));
     }
     let at = spot.token;
-    if tokens.len() <= at {
-        return Eval::Broken;
+    if parts.tokens.len() <= at {
+        return Err(Reason::NotOneTree.at(0));
     }
-    let t = tokens[at];
-    let mut after = spot;
-    after.token = at + 1;
+    let t = parts.tokens[at];
+    let after = Spot {
+        token: at + 1,
+        ..spot
+    };
     if t == 0 {
-        return leaf_at(link, steps, prims, frame, count, after);
+        return leaf_at(link, parts, frame, count, after);
     }
-    match eval_at(link, steps, prims, tokens, frame, count, after, depth - 1) {
-        Eval::Done { holds, next } => {
-            if t == 3 {
-                return denied(holds, next);
-            }
-            let second = eval_at(link, steps, prims, tokens, frame, count, next, depth - 1);
-            join(t, holds, second)
-        }
-        Eval::TooDeep => Eval::TooDeep,
-        Eval::Broken => Eval::Broken,
+    let first = eval_at(link, parts, frame, count, after, depth - 1)?;
+    if t == 3 {
+        return Ok(Judged {
+            holds: !first.holds,
+            ..first
+        });
     }
+    let second = eval_at(link, parts, frame, count, first.next, depth - 1)?;
+    Ok(Judged {
+        holds: join_bool(t, first.holds, second.holds),
+        ..second
+    })
 }

@@ -7,22 +7,21 @@ use native.Mathlib.Omega.{arith}
 use borrow.Author.Tests.{lt-ltb, le-ltb}
 use lib.ListN.{length, take, drop, length-append, length-drop}
 use lib.Seq.{length-take-le}
-use Rattle.filter.specs.Sheet.{tokens_part}
+use Rattle.filter.specs.Sheet.{counts, tokens_part}
 use Rattle.filter.specs.Written.{written}
 use Rattle.filter.proofs.Sheets.{found, sized}
 use Rattle.tree.specs.Tree.{Tree, flat, leaves, depth, tree_of}
 use Rattle.tree.proofs.Exact.{flat_whole}
 use Rattle.checks.specs.Check.{whole_of}
-use Rattle.checks.specs.declared.check.Checked.TheVariants as checked
+use Rattle.refusals.specs.Refusal.{Answer}
+use Rattle.refusals.specs.Refusal.Answer.{Refused, Given}
 use Rattle.checks.proofs.Bounds.{whole_shape}
 use Rattle.checks.proofs.Wholes.{Sorted}
 use Rattle.nots.specs.Nots.{wanted_part}
 use Rattle.nots.specs.Push.{tree_in, front_of, new_sheet, roomed, pushed, push_of, sheet_after}
-use Rattle.nots.specs.Turn.{tree_at, Begins, turned_at, wanted_at, size_of}
+use Rattle.nots.specs.Turn.{tree_at, Begins, turned_at, wanted_at, fits, size_of}
 use Rattle.nots.specs.Turn.Begins.{begins}
-use Rattle.nots.specs.declared.Pushed.{Pushed}
-use Rattle.nots.specs.declared.Pushed.TheVariants.{Refused, Length}
-use Rattle.nots.specs.declared.Size.TheVariants.{Fits, TooDeep}
+use Rattle.std.specs.Prelude.{None}
 use Rattle.nots.proofs.Turns.{size_told, deep_told}
 
 pub written_length : (front tokens : List ℕ) → length (written front tokens) ≡ length front + length tokens + 2
@@ -31,11 +30,11 @@ written_length front tokens = omega (arith, length-append front (length tokens /
 
 -- What was counted from the first token on.
 module _ (front ts : List ℕ) (output : ℕ) where
-  pub room_deep : size_of ts 0 256 false ≡ TooDeep → Refused 9 0 ≡ roomed front (tree_of ts) output
+  pub room_deep : size_of ts 0 256 false ≡ None → Refused 9 0 ≡ roomed front (tree_of ts) output
   unfolding roomed tree_of tree_at
   room_deep e = rw (lt-ltb 256 (depth (tree_of ts)) (deep_told ts false 0 256 e))
 
-  module _ {n s : ℕ} (e : size_of ts 0 256 false ≡ Fits n s) where
+  module _ {n s : ℕ} (e : size_of ts 0 256 false ≡ fits n s) where
     pub counted : s ≡ length (wanted_at ts 0)
     unfolding turned_at
     counted = (size_told ts false 0 256 e).2
@@ -59,7 +58,7 @@ module _ (front ts : List ℕ) (output : ℕ) where
     unfolding roomed
     room_short h k = rw (le-ltb 256 (depth (tree_of ts)) shallow, tokens_are, le-ltb 65535 s h, long, lt-ltb output (length front + s + 2) k)
 
-    pub room_enough : {k : ℕ} → length front ≡ k → s ≤ 65535 → k + s + 2 ≤ output → Length (k + s + 2) ≡ roomed front (tree_of ts) output
+    pub room_enough : {k : ℕ} → length front ≡ k → s ≤ 65535 → k + s + 2 ≤ output → Given (k + s + 2) ≡ roomed front (tree_of ts) output
     unfolding roomed
     room_enough {k} n h room = rw (le-ltb 256 (depth (tree_of ts)) shallow, tokens_are, le-ltb 65535 s h, long, n, le-ltb output (k + s + 2) room)
 
@@ -89,16 +88,16 @@ module _ (s : List ℕ) {a b c : ℕ} (t : Sorted s a b c) where
   unfolding new_sheet
   new_is = rw (tree_is, front_is)
 
-  pub pushed_is : (output : ℕ) → whole_of s ≡ checked.Good a b c → push_of s output ≡ roomed (take (5 * a + 24 * b + 4) s) (tree_of (tokens_part s a b c)) output
+  pub pushed_is : (output : ℕ) → whole_of s ≡ Given (counts a b c) → push_of s output ≡ roomed (take (5 * a + 24 * b + 4) s) (tree_of (tokens_part s a b c)) output
   unfolding push_of pushed
   pushed_is output e = rw (e, tree_is, front_is)
 
   -- The answer and the output, from those of the parts.
-  pub both_are : (o : List ℕ) {r : Pushed} {o1 : List ℕ} → whole_of s ≡ checked.Good a b c
+  pub both_are : (o : List ℕ) {r : Answer ℕ} {o1 : List ℕ} → whole_of s ≡ Given (counts a b c)
       → r ≡ roomed (take (5 * a + 24 * b + 4) s) (tree_of (tokens_part s a b c)) (length o)
       → o1 ≡ sheet_after r (written (take (5 * a + 24 * b + 4) s) (flat (wanted_part (tree_of (tokens_part s a b c))))) o
       → (r ≡ push_of s (length o)) × (o1 ≡ sheet_after (push_of s (length o)) (new_sheet s) o)
   both_are o e er eo =
       let new = written (take (5 * a + 24 * b + 4) s) (flat (wanted_part (tree_of (tokens_part s a b c)))) in
       let same = er ∙ sym (pushed_is (length o) e) in
-      (same, eo ∙ ap (λ (q : Pushed). sheet_after q new o) same ∙ ap (λ (n : List ℕ). sheet_after (push_of s (length o)) n o) (sym new_is))
+      (same, eo ∙ ap (λ (q : Answer ℕ). sheet_after q new o) same ∙ ap (λ (n : List ℕ). sheet_after (push_of s (length o)) n o) (sym new_is))

@@ -20,14 +20,13 @@ use Rattle.filter.proofs.Written.{written_sections, written_steps, written_prims
 use Rattle.tree.specs.Tree.{Tree, flat, leaves, depth, tree_of}
 use Rattle.tree.proofs.Prefix.{tree_flat}
 use Rattle.checks.specs.Check.{far_offset, shift_at, check_accesses, whole_of}
-use Rattle.checks.specs.declared.check.Checked.{Checked}
-use Rattle.checks.specs.declared.check.Checked.TheVariants as checked
+use Rattle.refusals.specs.Refusal.{Answer}
+use Rattle.refusals.specs.Refusal.Answer.{Refused, Given}
 use Rattle.checks.proofs.Wholes.{Sorted, sorted, sorted_whole, sorted_check, other_tree}
 use Rattle.meaning.specs.Evaluate.{primitive_holds, expression_holds, judge, evaluated, evaluate_of}
-use Rattle.meaning.specs.declared.evaluate.Verdict.TheVariants as verdict
 use Rattle.nots.specs.Nots.{wanted_part, low_nots}
 use Rattle.nots.specs.Push.{tree_in, front_of, new_sheet, roomed, pushed, push_of, sheet_after}
-use Rattle.nots.specs.declared.Pushed.TheVariants.{Refused, Length}
+use Rattle.filter.specs.declared.sheet.Counts.{Counts}
 use Rattle.nots.proofs.Trees.{wanted_leaves, wanted_low, wanted_twice, wanted_depth, wanted_holds}
 use Rattle.nots.proofs.Rooms.{one_tree, tree_is, front_is}
 
@@ -128,22 +127,22 @@ pub record Accepted (s : List ℕ) (output m : ℕ) : Type 0 where
   pub steps : ℕ
   pub prims : ℕ
   pub tokens : ℕ
-  pub whole : whole_of s ≡ checked.Good steps prims tokens
+  pub whole : whole_of s ≡ Given (counts steps prims tokens)
   pub shallow : depth (tree_in s) ≤ 256
   pub few : length (flat (wanted_part (tree_in s))) ≤ 65535
   pub long : m ≡ length (new_sheet s)
   pub room : m ≤ output
 
-clash : {n p m : ℕ} → Refused n p ≡ Length m → ⊥
+clash : {n p m : ℕ} → ◌≡◌ {A = Answer ℕ} (Refused n p) (Given m) → ⊥
 clash e = let never : ◌≡◌ {A = ℕ} 0 1 = cc in omega arith
 
-pub accepted : (s : List ℕ) (output : ℕ) {m : ℕ} → push_of s output ≡ Length m → Accepted s output m
+pub accepted : (s : List ℕ) (output : ℕ) {m : ℕ} → push_of s output ≡ Given m → Accepted s output m
 unfolding push_of pushed roomed new_sheet
 accepted s output {m} = on_check (whole_of s) refl
   where
-    fits : {a b c : ℕ} → whole_of s ≡ checked.Good a b c → (p q r : Bool) → ltb 256 (depth (tree_in s)) ≡ p → ltb 65535 (length (flat (wanted_part (tree_in s)))) ≡ q
+    fits : {a b c : ℕ} → whole_of s ≡ Given (counts a b c) → (p q r : Bool) → ltb 256 (depth (tree_in s)) ≡ p → ltb 65535 (length (flat (wanted_part (tree_in s)))) ≡ q
         → ltb output (length (written (front_of s) (flat (wanted_part (tree_in s))))) ≡ r
-        → cond p (Refused 9 0) (cond q (Refused 50 0) (cond r (Refused 7 0) (Length (length (written (front_of s) (flat (wanted_part (tree_in s)))))))) ≡ Length m → Accepted s output m
+        → cond p (Refused 9 0) (cond q (Refused 50 0) (cond r (Refused 7 0) (Given (length (written (front_of s) (flat (wanted_part (tree_in s)))))))) ≡ Given m → Accepted s output m
     fits w true q r ep eq er e = absurd (clash e)
     fits w false true r ep eq er e = absurd (clash e)
     fits w false false true ep eq er e = absurd (clash e)
@@ -151,11 +150,11 @@ accepted s output {m} = on_check (whole_of s) refl
         let n : m ≡ length (written (front_of s) (flat (wanted_part (tree_in s)))) = cc in
         record { steps = _; prims = _; tokens = _; whole = w; shallow = ltb-false _ _ ep; few = ltb-false _ _ eq; long = n; room = omega (arith, n, ltb-false output (length (written (front_of s) (flat (wanted_part (tree_in s))))) er) }
 
-    on_check : (x : Checked) → whole_of s ≡ x → pushed x s output ≡ Length m → Accepted s output m
-    on_check (checked.Refused number place) w e = absurd (clash e)
-    on_check (checked.Good a b c) w e = fits w _ _ _ refl refl refl e
+    on_check : (x : Answer Counts) → whole_of s ≡ x → pushed x s output ≡ Given m → Accepted s output m
+    on_check (Refused number place) w e = absurd (clash e)
+    on_check (Given n) w e = fits w _ _ _ refl refl refl e
 
-module _ (s : List ℕ) (output : ℕ) {m : ℕ} (e : push_of s output ≡ Length m) where
+module _ (s : List ℕ) (output : ℕ) {m : ℕ} (e : push_of s output ≡ Given m) where
   abbrev got : Accepted s output m
   got = accepted s output e
 
@@ -163,7 +162,7 @@ module _ (s : List ℕ) (output : ℕ) {m : ℕ} (e : push_of s output ≡ Lengt
   in_order = sorted s got.whole
 
   -- THEOREM: "the new sheet passes refusals 2 to 4".
-  pub passes : whole_of (new_sheet s) ≡ checked.Good got.steps got.prims (length (flat (wanted_part (tree_in s))))
+  pub passes : whole_of (new_sheet s) ≡ Given (counts got.steps got.prims (length (flat (wanted_part (tree_in s)))))
   passes = sorted_whole (new_sheet s) (new_sorted s in_order)
 
   -- THEOREM: every Not of the new tree has a primitive below it.
@@ -174,7 +173,7 @@ module _ (s : List ℕ) (output : ℕ) {m : ℕ} (e : push_of s output ≡ Lengt
   pub no_deeper : depth (tree_in (new_sheet s)) ≤ depth (tree_in s)
   no_deeper = subst (λ u. depth u ≤ depth (tree_in s)) (sym (new_tree s in_order)) (wanted_depth (tree_in s))
 
-  again : (room : ℕ) → m ≤ room → push_of (new_sheet s) room ≡ Length m
+  again : (room : ℕ) → m ≤ room → push_of (new_sheet s) room ≡ Given m
   unfolding push_of pushed roomed new_sheet
   again room h =
       rw (passes, new_front s in_order, new_tree s in_order, wanted_twice (tree_in s))
@@ -187,7 +186,7 @@ module _ (s : List ℕ) (output : ℕ) {m : ℕ} (e : push_of s output ≡ Lengt
 
   -- THEOREM: done twice, the second output is the first, byte for byte; what stands behind it stays.
   pub twice : (room : List ℕ) → m ≤ length room
-      → (push_of (new_sheet s) (length room) ≡ Length m) × (sheet_after (push_of (new_sheet s) (length room)) (new_sheet (new_sheet s)) room ≡ new_sheet s ++ drop m room)
+      → (push_of (new_sheet s) (length room) ≡ Given m) × (sheet_after (push_of (new_sheet s) (length room)) (new_sheet (new_sheet s)) room ≡ new_sheet s ++ drop m room)
   unfolding sheet_after
   twice room h =
       let same = again (length room) h in
@@ -219,8 +218,8 @@ module _ (s : List ℕ) (output : ℕ) {m : ℕ} (e : push_of s output ≡ Lengt
     same_rest = go (ltb (first (far_offset link prims) got.prims 0) got.prims) (ltb (first (shift_at steps prims) got.prims 0) got.prims)
       where
         go : (p q : Bool)
-            → evaluated (cond p (checked.Refused 5 (first (far_offset link prims) got.prims 0)) (cond q (checked.Refused 6 (first (shift_at steps prims) got.prims 0)) (checked.Good got.steps got.prims (length (flat (wanted_part (tree_in s))))))) link (new_sheet s) f
-            ≡ evaluated (cond p (checked.Refused 5 (first (far_offset link prims) got.prims 0)) (cond q (checked.Refused 6 (first (shift_at steps prims) got.prims 0)) (checked.Good got.steps got.prims got.tokens))) link s f
+            → evaluated (cond p (Refused 5 (first (far_offset link prims) got.prims 0)) (cond q (Refused 6 (first (shift_at steps prims) got.prims 0)) (Given (counts got.steps got.prims (length (flat (wanted_part (tree_in s)))))))) link (new_sheet s) f
+            ≡ evaluated (cond p (Refused 5 (first (far_offset link prims) got.prims 0)) (cond q (Refused 6 (first (shift_at steps prims) got.prims 0)) (Given (counts got.steps got.prims got.tokens)))) link s f
         go true q = refl
         go false true = refl
         go false false = rw (new_steps s in_order, new_prims s in_order, new_tokens s in_order) same_judge
@@ -231,19 +230,19 @@ module _ (s : List ℕ) (output : ℕ) {m : ℕ} (e : push_of s output ≡ Lengt
   same_answer link f =
       ap (λ x. evaluated x (link_of link) (new_sheet s) f)
       (sorted_check (new_sheet s) (new_sorted s in_order) link
-      ∙ ap (λ l. cond (ltb 2 link) (checked.Refused 1 0) (check_accesses (link_of link) l (prims_part (new_sheet s) got.steps got.prims) got.steps got.prims (length (flat (wanted_part (tree_in s)))))) (new_steps s in_order)
-      ∙ ap (λ l. cond (ltb 2 link) (checked.Refused 1 0) (check_accesses (link_of link) (steps_part s got.steps) l got.steps got.prims (length (flat (wanted_part (tree_in s)))))) (new_prims s in_order))
+      ∙ ap (λ l. cond (ltb 2 link) (Refused 1 0) (check_accesses (link_of link) l (prims_part (new_sheet s) got.steps got.prims) got.steps got.prims (length (flat (wanted_part (tree_in s)))))) (new_steps s in_order)
+      ∙ ap (λ l. cond (ltb 2 link) (Refused 1 0) (check_accesses (link_of link) (steps_part s got.steps) l got.steps got.prims (length (flat (wanted_part (tree_in s)))))) (new_prims s in_order))
       ∙ go (ltb 2 link)
       ∙ ap (λ x. evaluated x (link_of link) s f) (sym (sorted_check s in_order link))
     where
-      rest : ℕ → Checked
+      rest : ℕ → Answer Counts
       rest c = check_accesses (link_of link) (steps_part s got.steps) (prims_part s got.steps got.prims) got.steps got.prims c
 
-      go : (p : Bool) → evaluated (cond p (checked.Refused 1 0) (rest (length (flat (wanted_part (tree_in s)))))) (link_of link) (new_sheet s) f
-          ≡ evaluated (cond p (checked.Refused 1 0) (rest got.tokens)) (link_of link) s f
+      go : (p : Bool) → evaluated (cond p (Refused 1 0) (rest (length (flat (wanted_part (tree_in s)))))) (link_of link) (new_sheet s) f
+          ≡ evaluated (cond p (Refused 1 0) (rest got.tokens)) (link_of link) s f
       go true = refl
       go false = same_rest (link_of link) f
 
   -- THEOREM: "Where the link gives the old sheet a meaning (not refused 5, 6 or 11 to 19), the new one holds on exactly the same frames".
-  pub same_frames : (link : ℕ) (f : List ℕ) {h : Bool} → evaluate_of s link f ≡ verdict.Judged h → evaluate_of (new_sheet s) link f ≡ verdict.Judged h
+  pub same_frames : (link : ℕ) (f : List ℕ) {h : Bool} → evaluate_of s link f ≡ Given h → evaluate_of (new_sheet s) link f ≡ Given h
   same_frames link f j = same_answer link f ∙ j

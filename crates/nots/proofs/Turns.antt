@@ -11,9 +11,10 @@ use Rattle.tree.specs.Tree.{Tree, flat, depth}
 use Rattle.tree.specs.Tree.Tree.{leaf, and, or, inv}
 use Rattle.meaning.proofs.Walks.{at_most_or_above}
 use Rattle.nots.specs.Nots.{wanted_part, denied_part}
-use Rattle.nots.specs.Turn.{tree_at, Begins, past, wanted_at, denied_at, turned_at, other_of, leaf_size, size_of}
+use Rattle.nots.specs.Turn.{tree_at, Begins, past, wanted_at, denied_at, turned_at, other_of, fits, leaf_size, size_of}
 use Rattle.nots.specs.Turn.Begins.{begins}
-use Rattle.nots.specs.declared.Size.TheVariants.{Fits, TooDeep}
+use Rattle.std.specs.Prelude.{None}
+use Rattle.nots.specs.declared.Turned.{Turned}
 use Rattle.nots.proofs.Trees.{wanted_size, denied_size}
 use Rattle.nots.proofs.Places.{Part, part, tree_there}
 use Rattle.nots.proofs.Places.Part.{lone, under, with_and, with_or}
@@ -142,29 +143,32 @@ module _ (ts : List ℕ) where
         go false = ap length w.wants ∙ omega (arith, length-append (wanted_at ts (at + 1)) (wanted_at ts (past ts (at + 1))))
 
     -- Both ways round: deep or not, and what is then told.
-    pub size_fits : (at levels : ℕ) → depth (tree_at ts at) ≤ levels → size_of ts at levels d ≡ Fits (past ts at) (length (turned_at d ts at))
+    pub size_fits : (at levels : ℕ) → depth (tree_at ts at) ≤ levels → size_of ts at levels d ≡ fits (past ts at) (length (turned_at d ts at))
     unfolding size_of
     size_fits at levels h = rw (le-ltb levels (depth (tree_at ts at)) h)
 
-    pub size_deep : (at levels : ℕ) → levels < depth (tree_at ts at) → size_of ts at levels d ≡ TooDeep
+    pub size_deep : (at levels : ℕ) → levels < depth (tree_at ts at) → size_of ts at levels d ≡ None
     unfolding size_of
     size_deep at levels h = rw (lt-ltb levels (depth (tree_at ts at)) h)
 
-    pub size_told : (at levels : ℕ) {n s : ℕ} → size_of ts at levels d ≡ Fits n s → (depth (tree_at ts at) ≤ levels) × (n ≡ past ts at) × (s ≡ length (turned_at d ts at))
-    size_told at levels e =
+    pub size_told : (at levels : ℕ) {n s : ℕ} → size_of ts at levels d ≡ fits n s → (depth (tree_at ts at) ≤ levels) × (n ≡ past ts at) × (s ≡ length (turned_at d ts at))
+    size_told at levels {n} {s} e =
         ⊎_elim
-        (λ (h : depth (tree_at ts at) ≤ levels). let f = size_fits at levels h in (h, cc, cc))
+        (λ (h : depth (tree_at ts at) ≤ levels).
+        let f = size_fits at levels h in
+        let q : ◌≡◌ {A = Turned} (record { next = n; size = s }) (record { next = past ts at; size = length (turned_at d ts at) }) = cc in
+        (h, ap (λ (x : Turned). x.next) q, ap (λ (x : Turned). x.size) q))
         (λ (h : levels < depth (tree_at ts at)). let f = size_deep at levels h in let clash : ◌≡◌ {A = ℕ} 0 1 = cc in absurd (omega arith))
         (at_most_or_above (depth (tree_at ts at)) levels)
 
-    pub deep_told : (at levels : ℕ) → size_of ts at levels d ≡ TooDeep → levels < depth (tree_at ts at)
+    pub deep_told : (at levels : ℕ) → size_of ts at levels d ≡ None → levels < depth (tree_at ts at)
     deep_told at levels e =
         ⊎_elim
         (λ (h : depth (tree_at ts at) ≤ levels). let f = size_fits at levels h in let clash : ◌≡◌ {A = ℕ} 0 1 = cc in absurd (omega arith))
         (λ (h : levels < depth (tree_at ts at)). h)
         (at_most_or_above (depth (tree_at ts at)) levels)
 
-    pub no_levels : (at levels : ℕ) → levels ≡ 0 → TooDeep ≡ size_of ts at levels d
+    pub no_levels : (at levels : ℕ) → levels ≡ 0 → None ≡ size_of ts at levels d
     no_levels at levels e = sym (size_deep at levels (omega (arith, some_depth (tree_at ts at))))
 
     pub size_lone : (at levels : ℕ) → Begins ts at → (levels ≡ 0 → ⊥) → get_or ts at 0 ≡ 0 → leaf_size (at + 1) d ≡ size_of ts at levels d
@@ -173,38 +177,38 @@ module _ (ts : List ℕ) where
         let l = lone_at at b z in
         sym (size_fits at levels (omega (arith, n, l.deep)) ∙ rw (l.next, l.wants, l.denies) (go d))
       where
-        go : (d : Bool) → Fits (at + 1) (length {A = ℕ} (cond d (3 ∷ 0 ∷ []) (0 ∷ []))) ≡ Fits (at + 1) (cond d 2 1)
+        go : (d : Bool) → fits (at + 1) (length {A = ℕ} (cond d (3 ∷ 0 ∷ []) (0 ∷ []))) ≡ fits (at + 1) (cond d 2 1)
         go true = refl
         go false = refl
 
-    pub size_bound : (at levels : ℕ) {n s : ℕ} → Begins ts at → length ts < 65536 → size_of ts at levels d ≡ Fits n s → s < 131072
+    pub size_bound : (at levels : ℕ) {n s : ℕ} → Begins ts at → length ts < 65536 → size_of ts at levels d ≡ fits n s → s < 131072
     size_bound at levels b h e = omega (arith, (size_told at levels e).2, turned_most d at b)
 
     module _ (at levels : ℕ) (n : levels ≡ 0 → ⊥) (w : Two ts at) where
-      pub deep_first : size_of ts (at + 1) (levels - 1) d ≡ TooDeep → TooDeep ≡ size_of ts at levels d
+      pub deep_first : size_of ts (at + 1) (levels - 1) d ≡ None → None ≡ size_of ts at levels d
       deep_first e = sym (size_deep at levels (omega (arith, n, w.deep, deep_told (at + 1) (levels - 1) e)))
 
-      pub deep_second : {m s : ℕ} → size_of ts (at + 1) (levels - 1) d ≡ Fits m s → size_of ts m (levels - 1) d ≡ TooDeep → TooDeep ≡ size_of ts at levels d
+      pub deep_second : {m s : ℕ} → size_of ts (at + 1) (levels - 1) d ≡ fits m s → size_of ts m (levels - 1) d ≡ None → None ≡ size_of ts at levels d
       deep_second e f =
           let here = (size_told (at + 1) (levels - 1) e).1 in
-          let g : size_of ts (past ts (at + 1)) (levels - 1) d ≡ TooDeep = ap (λ (k : ℕ). size_of ts k (levels - 1) d) (sym here) ∙ f in
+          let g : size_of ts (past ts (at + 1)) (levels - 1) d ≡ None = ap (λ (k : ℕ). size_of ts k (levels - 1) d) (sym here) ∙ f in
           sym (size_deep at levels (omega (arith, n, w.deep, deep_told (past ts (at + 1)) (levels - 1) g)))
 
-      pub size_two : {m s k r : ℕ} → size_of ts (at + 1) (levels - 1) d ≡ Fits m s → size_of ts m (levels - 1) d ≡ Fits k r → Fits k (s + r + 1) ≡ size_of ts at levels d
+      pub size_two : {m s k r : ℕ} → size_of ts (at + 1) (levels - 1) d ≡ fits m s → size_of ts m (levels - 1) d ≡ fits k r → fits k (s + r + 1) ≡ size_of ts at levels d
       size_two {m} {s} {k} {r} e f =
           let one = size_told (at + 1) (levels - 1) e in
-          let g : size_of ts (past ts (at + 1)) (levels - 1) d ≡ Fits k r = ap (λ (j : ℕ). size_of ts j (levels - 1) d) (sym one.1) ∙ f in
+          let g : size_of ts (past ts (at + 1)) (levels - 1) d ≡ fits k r = ap (λ (j : ℕ). size_of ts j (levels - 1) d) (sym one.1) ∙ f in
           let two = size_told (past ts (at + 1)) (levels - 1) g in
           let ends : k ≡ past ts at = two.1 ∙ sym w.next in
           let sum : s + r + 1 ≡ length (turned_at d ts at) = omega (arith, one.2, two.2, turned_two at w) in
-          ap (λ (j : ℕ). Fits j (s + r + 1)) ends ∙ ap (Fits (past ts at)) sum
+          ap (λ (j : ℕ). fits j (s + r + 1)) ends ∙ ap (fits (past ts at)) sum
           ∙ sym (size_fits at levels (omega (arith, n, w.deep, one.0, two.0)))
 
   pub size_under : (d : Bool) (at levels : ℕ) → (levels ≡ 0 → ⊥) → Under ts at → size_of ts (at + 1) (levels - 1) (not d) ≡ size_of ts at levels d
   size_under d at levels n u =
       ⊎_elim
       (λ (h : depth (tree_at ts (at + 1)) ≤ levels - 1).
-      size_fits (not d) (at + 1) (levels - 1) h ∙ ap (λ (k : ℕ). Fits k (length (turned_at (not d) ts (at + 1)))) (sym u.next)
-      ∙ ap (λ x. Fits (past ts at) (length x)) (sym (turned_under d at u)) ∙ sym (size_fits d at levels (omega (arith, n, u.deep))))
+      size_fits (not d) (at + 1) (levels - 1) h ∙ ap (λ (k : ℕ). fits k (length (turned_at (not d) ts (at + 1)))) (sym u.next)
+      ∙ ap (λ x. fits (past ts at) (length x)) (sym (turned_under d at u)) ∙ sym (size_fits d at levels (omega (arith, n, u.deep))))
       (λ (h : levels - 1 < depth (tree_at ts (at + 1))). size_deep (not d) (at + 1) (levels - 1) h ∙ sym (size_deep d at levels (omega (arith, n, u.deep))))
       (at_most_or_above (depth (tree_at ts (at + 1))) (levels - 1))

@@ -1,11 +1,11 @@
 -- What the stores of a turned part make of the output.
 use Prim.Native.Nat.{ℕ, suc, ◌+◌, ◌/◌, ◌%◌, ◌<◌, ◌≤◌}
-use mathlib.Core.Path.{◌≡◌, refl, sym, ap, ◌∙◌}
+use mathlib.Core.Path.{◌≡◌, sym, ap, ◌∙◌}
 use mathlib.Core.List.{List, [], ◌∷◌, ◌++◌}
 use native.Mathlib.Omega.{arith}
 use native.Mathlib.Numerals.{add-one}
-use lib.ListN.{length, get_or, set, take, drop, length-append}
-use lib.Seq.{sets, sets-eq, take-suc, length-take-le}
+use lib.ListN.{length, set, take, drop, length-append}
+use lib.Seq.{sets, sets-eq, length-take-le}
 use Rattle.filter.specs.Written.{written}
 use Rattle.tree.specs.Tree.{Tree, flat}
 use Rattle.tree.specs.Tree.Tree.{leaf, and, or, inv}
@@ -67,21 +67,9 @@ wrote_two F G o at to x {o1} {o2} {mid} {r} all behind em e1 er e2 =
           ∙ ap (λ (k : ℕ). sets (set o to x) k (A ++ B)) (add-one to) ∙ ap (sets o to) (sym all),
     )
 
--- The first bytes of the sheet, stored one by one.
-pub copied_none : (s o : List ℕ) → o ≡ laid o 0 (take 0 s)
-unfolding laid
-copied_none s o = refl
-
-pub copied_more : (s o : List ℕ) (i : ℕ) {now : List ℕ} → i < length s → now ≡ laid o 0 (take i s) → set now i (get_or s i 0) ≡ laid o 0 (take (i + 1) s)
-unfolding laid
-copied_more s o i {now} h e =
-    let n : 0 + length (take i s) ≡ i = omega (arith, length-take-le i s (omega arith)) in
-    ap (λ l. set l i (get_or s i 0)) e
-    ∙ sym (ap (λ (k : ℕ). sets o 0 (take k s)) (add-one i) ∙ ap (sets o 0) (take-suc s i 0 h) ∙ sets_append o 0 (take i s) (get_or s i 0 ∷ []) ∙ ap (λ (k : ℕ). set (sets o 0 (take i s)) k (get_or s i 0)) n)
-
 -- The front, two bytes of a count and the tokens are the new sheet, and what stands behind them stays.
 pub written_out : (s o : List ℕ) (front size : ℕ) (W : List ℕ) {o1 o2 : List ℕ} → front ≤ length s → size ≡ length W → front + size + 2 ≤ length o
-    → o1 ≡ laid o 0 (take front s) → o2 ≡ laid (set (set o1 front (size / 256)) (front + 1) (size % 256)) (front + 2) W
+    → o1 ≡ take front s ++ drop front o → o2 ≡ laid (set (set o1 front (size / 256)) (front + 1) (size % 256)) (front + 2) W
     → o2 ≡ written (take front s) W ++ drop (front + size + 2) o
 unfolding laid written
 written_out s o front size W {o1} h e room e1 e2 =
@@ -93,9 +81,10 @@ written_out s o front size W {o1} h e room e1 e2 =
     let start : 0 + length F ≡ front = omega (arith, long) in
     let two : front + 2 ≡ suc (suc front) = omega arith in
     let new = F ++ (a ∷ b ∷ W) in
+    let copied : F ++ drop front o ≡ X = sym (sets-eq F o 0 (omega (arith, start, room)) ∙ ap (λ (k : ℕ). F ++ drop k o) start) in
     let all : 0 + length new ≡ front + size + 2 = omega (arith, length-append F (a ∷ b ∷ W), long, e) in
     e2
-    ∙ ap (λ l. sets (set (set l front (size / 256)) (front + 1) (size % 256)) (front + 2) W) e1
+    ∙ ap (λ l. sets (set (set l front (size / 256)) (front + 1) (size % 256)) (front + 2) W) (e1 ∙ copied)
     ∙ ap (λ (k : ℕ). sets (set (set X front (k / 256)) (front + 1) (k % 256)) (front + 2) W) e
     ∙ ap (λ (k : ℕ). sets (set (set X front a) k b) (front + 2) W) (add-one front)
     ∙ ap (λ (k : ℕ). sets (set (set X front a) (suc front) b) k W) two

@@ -1,11 +1,10 @@
 -- How the new tree is counted and written: by places in the tokens, with no tree built. Steps of proofs.
-use Rattle.std.specs.Prelude.{ℕ, ◌+◌, ◌≡◌, List, ◌++◌, Bool, cond, eqb, ltb, length, drop}
+use Rattle.std.specs.Prelude.{ℕ, ◌+◌, ◌≡◌, List, ◌++◌, Bool, cond, eqb, ltb, length, drop, Option, Some, None}
 use Rattle.std.proofs.lemmas.List.Edits.{sets}
 use Rattle.tree.specs.Tree.{Tree, flat, depth, trees_of, front}
 use Rattle.nots.specs.Nots.{wanted_part, denied_part}
 use Rattle.nots.specs.declared.Reached.{Reached}
-use Rattle.nots.specs.declared.Size.{Size}
-use Rattle.nots.specs.declared.Size.TheVariants.{Fits, TooDeep}
+use Rattle.nots.specs.declared.Turned.{Turned}
 
 -- The tree whose tokens begin at a place.
 unfoldable pub tree_at : List ℕ → ℕ → Tree
@@ -41,9 +40,14 @@ laid output to bytes = sets output to bytes
 unfoldable pub reached_of : ℕ → ℕ → List ℕ → Reached
 reached_of next to bytes = record { token = next; to = to + length bytes }
 
--- A primitive is one token, under a Not two.
-unfoldable pub leaf_size : ℕ → Bool → Size
-leaf_size next denied = Fits next (cond denied 2 1)
+-- Where the tokens behind a part begin, and how many tokens the turned part needs.
+abbrev pub fits : ℕ → ℕ → Option Turned
+fits next size = Some (record { next = next; size = size })
 
-unfoldable pub size_of : List ℕ → ℕ → ℕ → Bool → Size
-size_of ts at levels denied = cond (ltb levels (depth (tree_at ts at))) TooDeep (Fits (past ts at) (length (turned_at denied ts at)))
+-- A primitive is one token, under a Not two.
+unfoldable pub leaf_size : ℕ → Bool → Option Turned
+leaf_size next denied = fits next (cond denied 2 1)
+
+-- None where the part has more levels.
+unfoldable pub size_of : List ℕ → ℕ → ℕ → Bool → Option Turned
+size_of ts at levels denied = cond (ltb levels (depth (tree_at ts at))) None (fits (past ts at) (length (turned_at denied ts at)))

@@ -2,75 +2,60 @@
 #![tactic(auto)]
 
 ghost use Rattle.std.specs.Prelude.{◌≡◌, ◌++◌, ◌+◌, ◌<◌, ◌≤◌, length, take, drop};
+ghost use Rattle.refusals.specs.Refusal.{told};
 ghost use Rattle.filter.specs.Written.{written};
 ghost use Rattle.nots.specs.Turn.{Begins, past, wanted_at, denied_at, other_of, laid, reached_of, leaf_size, size_of};
 ghost use Rattle.nots.specs.Push.{new_sheet, roomed, push_of, sheet_after};
 ghost use Rattle.nots.specs.Nots.{wanted_part};
 ghost use Rattle.tree.specs.Tree.{flat, tree_of};
 
-use checks::check::{Checked, check_whole};
-
-// A refusal, or the new sheet's length.
-#[derive(Clone, Copy)]
-pub enum Pushed {
-    Refused { number: u8, place: u32 },
-    Length { bytes: u32 },
-}
+use checks::check::check_whole;
+use refusals::{Reason, Refusal};
 
 // A place in the tokens, and one in the output.
-#[derive(Clone, Copy)]
+#[derive(Clone, Copy, PartialEq, Eq)]
 pub struct Reached {
     pub token: usize,
     pub to: usize,
 }
 
-// How many tokens the turned part needs, and where the tokens behind the part begin.
-#[derive(Clone, Copy)]
-pub enum Size {
-    Fits { next: usize, size: usize },
-    TooDeep,
+// Where the tokens behind a part begin, and how many tokens the turned part needs.
+#[derive(Clone, Copy, PartialEq, Eq)]
+pub struct Turned {
+    pub next: usize,
+    pub size: usize,
 }
 
 // A primitive's part, under a Not of its own where it is denied.
-fn leaf_size(next: usize, denied: bool) -> Size
-    ensures { result ≡ leaf_size next denied }
+fn leaf_size(next: usize, denied: bool) -> Turned
+    ensures { Some result ≡ leaf_size next denied }
 {
-    if denied {
-        Size::Fits { next, size: 2 }
-    } else {
-        Size::Fits { next, size: 1 }
-    }
+    let size = if denied { 2 } else { 1 };
+    Turned { next, size }
 }
 
-// The part that begins at a place, of at most `levels` levels: counted before a byte is written, as refusals touch no output.
-fn size_at(tokens: &[u8], at: usize, levels: u16, denied: bool) -> Size
+// The part that begins at a place, if it has at most `levels` levels: counted before a byte is written, as refusals touch no output.
+fn size_at(tokens: &[u8], at: usize, levels: u16, denied: bool) -> Option<Turned>
     requires tokens_len_bound { length tokens.now < 65536 }
     requires begins { Begins tokens.now at }
     ensures { result ≡ size_of tokens.now at levels denied }
 {
     if levels == 0 {
-        return Size::TooDeep;
+        return None;
     }
     let t = tokens[at];
     if t == 0 {
-        return leaf_size(at + 1, denied);
+        return Some(leaf_size(at + 1, denied));
     }
     if t == 3 {
         return size_at(tokens, at + 1, levels - 1, !denied);
     }
-    match size_at(tokens, at + 1, levels - 1, denied) {
-        Size::TooDeep => Size::TooDeep,
-        Size::Fits { next, size } => match size_at(tokens, next, levels - 1, denied) {
-            Size::TooDeep => Size::TooDeep,
-            Size::Fits {
-                next: end,
-                size: second,
-            } => Size::Fits {
-                next: end,
-                size: size + second + 1,
-            },
-        },
-    }
+    let first = size_at(tokens, at + 1, levels - 1, denied)?;
+    let second = size_at(tokens, first.next, levels - 1, denied)?;
+    Some(Turned {
+        next: second.next,
+        size: first.size + second.size + 1,
+    })
 }
 
 // And for Or and Or for And.
@@ -128,18 +113,6 @@ fn denied(tokens: &[u8], at: usize, output: &mut [u8], to: usize) -> Reached
     denied(tokens, mid.token, output, mid.to)
 }
 
-// The first n bytes of the sheet.
-fn copy_front(sheet: &[u8], n: usize, output: &mut [u8])
-    requires { (n ≤ length sheet.now) × (n ≤ length output.old) }
-    ensures { output.new ≡ laid output.old 0 (take n sheet.now) }
-{
-    let mut i = 0;
-    while i < n {
-        output[i] = sheet[i];
-        i += 1;
-    }
-}
-
 // The new sheet: the front, the count of its tokens, and the turned tree.
 fn write_sheet(sheet: &[u8], front: usize, size: usize, tokens: &[u8], output: &mut [u8])
     requires front_in_bounds { (front ≤ length sheet.now) × (size < 65536) }
@@ -147,63 +120,37 @@ fn write_sheet(sheet: &[u8], front: usize, size: usize, tokens: &[u8], output: &
     requires size_in_bounds { front + size + 2 ≤ length output.old }
     ensures { output.new ≡ written (take front sheet.now) (wanted_at tokens.now 0) ++ drop (front + size + 2) output.old }
 {
-    copy_front(sheet, front, output);
+    output[..front].copy_from_slice(&sheet[..front]);
     output[front] = (size / 256) as u8;
     output[front + 1] = (size % 256) as u8;
     wanted(tokens, 0, output, front + 2);
 }
 
 // Refusals 9, 50 and 7, of a sheet that passes 2 to 4.
-fn push_tree(sheet: &[u8], front: usize, tokens: &[u8], output: &mut [u8]) -> Pushed
+fn push_tree(sheet: &[u8], front: usize, tokens: &[u8], output: &mut [u8]) -> Result<u32, Refusal>
     requires front_in_bounds { (front ≤ length sheet.now) × (front < 2000000) }
     requires tokens_len_bound { (length tokens.now < 65536) × Begins tokens.now 0 }
-    ensures value { result ≡ roomed (take front sheet.now) (tree_of tokens.now) (length output.old) }
-    ensures output_after { output.new ≡ sheet_after result (written (take front sheet.now) (flat (wanted_part (tree_of tokens.now)))) output.old }
+    ensures value { told result ≡ roomed (take front sheet.now) (tree_of tokens.now) (length output.old) }
+    ensures output_after { output.new ≡ sheet_after (told result) (written (take front sheet.now) (flat (wanted_part (tree_of tokens.now)))) output.old }
 {
-    match size_at(tokens, 0, 256, false) {
-        Size::TooDeep => Pushed::Refused {
-            number: 9,
-            place: 0,
-        },
-        Size::Fits { next: _, size } => {
-            if 65535 < size {
-                return Pushed::Refused {
-                    number: 50,
-                    place: 0,
-                };
-            }
-            let length = front + size + 2;
-            if output.len() < length {
-                return Pushed::Refused {
-                    number: 7,
-                    place: 0,
-                };
-            }
-            write_sheet(sheet, front, size, tokens, output);
-            Pushed::Length {
-                bytes: length as u32,
-            }
-        }
+    let turned = size_at(tokens, 0, 256, false).ok_or(Reason::DeepTree.at(0))?;
+    if 65535 < turned.size {
+        return Err(Reason::ManyTokens.at(0));
     }
+    let length = front + turned.size + 2;
+    if output.len() < length {
+        return Err(Reason::ShortOutput.at(0));
+    }
+    write_sheet(sheet, front, turned.size, tokens, output);
+    Ok(length as u32)
 }
 
-// Any sheet, any output.
-pub fn push_nots(sheet: &[u8], output: &mut [u8]) -> Pushed
-    ensures value { result ≡ push_of sheet.now (length output.old) }
+// The new sheet's length. Any sheet, any output.
+pub fn push_nots(sheet: &[u8], output: &mut [u8]) -> Result<u32, Refusal>
+    ensures value { told result ≡ push_of sheet.now (length output.old) }
     ensures output_after { output.new ≡ sheet_after (push_of sheet.now (length output.old)) (new_sheet sheet.now) output.old }
 {
-    match check_whole(sheet) {
-        Checked::Refused { number, place } => Pushed::Refused { number, place },
-        Checked::Good {
-            steps,
-            prims,
-            tokens,
-        } => {
-            let records = 5 * (steps as usize) + 24 * (prims as usize);
-            let front = records + 4;
-            let start = records + 6;
-            let end = records + (tokens as usize) + 6;
-            push_tree(sheet, front, &sheet[start..end], output)
-        }
-    }
+    let n = check_whole(sheet)?;
+    let front = 5 * usize::from(n.steps) + 24 * usize::from(n.prims) + 4;
+    push_tree(sheet, front, n.sections(sheet).tokens, output)
 }

@@ -4,10 +4,10 @@ use mathlib.Core.Path.{◌≡◌, refl, ap}
 use mathlib.Core.List.{List, [], ◌∷◌, ◌++◌, append_assoc}
 use lib.ListN.{length}
 use Rattle.ebpf.specs.declared.insn.Insn.{Insn}
-use Rattle.patches.specs.declared.Patched.{Patched}
-use Rattle.patches.specs.declared.Patched.TheVariants.{Done, TooFar}
+use Rattle.patches.specs.Chain.{Patched}
+use Rattle.std.specs.Prelude.{Ok, Err}
 use Rattle.patches.specs.Chain.{reach}
-use Rattle.patches.specs.Finish.{ja}
+use Rattle.patches.specs.Operators.{ja}
 use Rattle.patches.specs.Listing.{resolved_l, ResL, when_l, and_done_l, and_right_l, or_done_l, or_right_l}
 use Rattle.patches.specs.Listing.ResL.{fail_l, ok_l}
 
@@ -30,8 +30,8 @@ and_done_right kept (fail_l c i) more = refl
 and_done_right kept (ok_l is k sp fp) more = go (reach (length is) sp)
   where
     go : (p : Patched) → when_l p (and_done_l (fp ++ kept) (more k (resolved_l (length is) sp is))) ≡ and_done_l kept (when_l p (and_done_l fp (more k (resolved_l (length is) sp is))))
-    go TooFar = refl
-    go Done = and_done_twice fp kept (more k (resolved_l (length is) sp is))
+    go (Err _) = refl
+    go (Ok _) = and_done_twice fp kept (more k (resolved_l (length is) sp is))
 
 or_done_right : (kept : List ℕ) (r : ResL) (more : More) → or_right_l (or_done_l kept r) more ≡ or_done_l kept (or_right_l r more)
 or_done_right kept (fail_l c i) more = refl
@@ -39,8 +39,8 @@ or_done_right kept (ok_l is k sp fp) more = go (reach (length is + 1) fp)
   where
     go : (p : Patched) → when_l p (or_done_l (length is ∷ (sp ++ kept)) (more k (resolved_l (length is + 1) fp (is ++ (ja ∷ [])))))
         ≡ or_done_l kept (when_l p (or_done_l (length is ∷ sp) (more k (resolved_l (length is + 1) fp (is ++ (ja ∷ []))))))
-    go TooFar = refl
-    go Done = or_done_twice (length is ∷ sp) kept (more k (resolved_l (length is + 1) fp (is ++ (ja ∷ []))))
+    go (Err _) = refl
+    go (Ok _) = or_done_twice (length is ∷ sp) kept (more k (resolved_l (length is + 1) fp (is ++ (ja ∷ []))))
 
 -- THEOREM: one operator after another, by either bracket.
 pub and_assoc : (r : ResL) (f g : More) → and_right_l (and_right_l r f) g ≡ and_right_l r (λ k is. and_right_l (f k is) g)
@@ -48,8 +48,8 @@ and_assoc (fail_l c i) f g = refl
 and_assoc (ok_l is k sp fp) f g = go (reach (length is) sp)
   where
     go : (p : Patched) → and_right_l (when_l p (and_done_l fp (f k (resolved_l (length is) sp is)))) g ≡ when_l p (and_done_l fp (and_right_l (f k (resolved_l (length is) sp is)) g))
-    go TooFar = refl
-    go Done = and_done_right fp (f k (resolved_l (length is) sp is)) g
+    go (Err _) = refl
+    go (Ok _) = and_done_right fp (f k (resolved_l (length is) sp is)) g
 
 pub or_assoc : (r : ResL) (f g : More) → or_right_l (or_right_l r f) g ≡ or_right_l r (λ k is. or_right_l (f k is) g)
 or_assoc (fail_l c i) f g = refl
@@ -57,8 +57,8 @@ or_assoc (ok_l is k sp fp) f g = go (reach (length is + 1) fp)
   where
     go : (p : Patched) → or_right_l (when_l p (or_done_l (length is ∷ sp) (f k (resolved_l (length is + 1) fp (is ++ (ja ∷ [])))))) g
         ≡ when_l p (or_done_l (length is ∷ sp) (or_right_l (f k (resolved_l (length is + 1) fp (is ++ (ja ∷ [])))) g))
-    go TooFar = refl
-    go Done = or_done_right (length is ∷ sp) (f k (resolved_l (length is + 1) fp (is ++ (ja ∷ [])))) g
+    go (Err _) = refl
+    go (Ok _) = or_done_right (length is ∷ sp) (f k (resolved_l (length is + 1) fp (is ++ (ja ∷ [])))) g
 
 -- What comes behind is looked at where it stands only.
 pub and_more : (r : ResL) (f g : More) → ((k : ℕ) (is : List Insn) → f k is ≡ g k is) → and_right_l r f ≡ and_right_l r g

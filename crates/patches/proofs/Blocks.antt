@@ -4,7 +4,8 @@ use mathlib.Core.Path.{◌≡◌, refl, ap, ◌∙◌}
 use mathlib.Core.List.{List, [], ◌∷◌, ◌++◌}
 use native.Mathlib.Omega.{arith}
 use lib.ListN.{length}
-use Rattle.patches.specs.Code.{Slot, Emission, push1, block, outs, successes, failures}
+use Rattle.patches.specs.declared.Codegen.{Codegen}
+use Rattle.patches.specs.Code.{Slot, Emission, emission, push1, block, outs, successes, failures}
 use Rattle.patches.specs.Code.Slot.{fixed, success, failure}
 use Rattle.patches.specs.Rel.{Frame, Rel}
 use Rattle.patches.proofs.Reading.{rel_fixed, rel_success, rel_failure}
@@ -45,3 +46,14 @@ block_append (x ∷ xs) ys e = block_append xs ys (push1 x e)
 
 pub pos_of : (xs : List Slot) (e e1 : Emission) → e1 ≡ block xs e → e1.patches.pos ≡ e.patches.pos + length xs
 pos_of xs e e1 h = ap (λ (v : Emission). v.patches.pos) h ∙ pos_block xs e
+
+-- What is written tells the whole `Codegen`.
+pub same_code : {c d : Codegen} → emission c ≡ emission d → c ≡ d
+unfolding emission
+same_code h i = record {
+  out = record { ref_ptr = (h i).setting.out.place; ghost_name = (h i).setting.out.name; now = (h i).out };
+  work = record { ref_ptr = (h i).setting.work.place; ghost_name = (h i).setting.work.name; now = (h i).work };
+  patches = (h i).patches;
+  mode = (h i).setting.mode;
+  link = (h i).setting.link;
+}

@@ -1,19 +1,17 @@
 -- Bytes that begin with instructions: an instruction more, a distance set, a run more.
-use Prim.Native.Nat.{ℕ, zero, suc, ◌+◌, ◌-◌, ◌*◌, ◌/◌, ◌%◌, ◌<◌, ◌≤◌}
+use Prim.Native.Nat.{ℕ, zero, suc, ◌+◌, ◌-◌, ◌*◌, ◌≤◌}
 use mathlib.Core.Path.{◌≡◌, refl, sym, ap, ◌∙◌, subst}
 use mathlib.Core.List.{List, [], ◌∷◌, ◌++◌, append_assoc, append-nil}
 use mathlib.Core.Bool.{Bool, true, false, cond}
 use native.Mathlib.Omega.{arith}
-use borrow.Author.Tests.{le-leb, lt-leb}
+use borrow.Author.Tests.{le-leb}
 use lib.Dec.{leb, ltb}
-use lib.ListN.{length, take, drop, set, length-set, length-append}
-use lib.Seq.{sets, sets-eq, length-sets, length-take-le, take_at}
+use lib.ListN.{length, take, drop, length-set, length-append}
+use lib.Seq.{sets, sets-eq, length-sets, take_at}
 use Rattle.ebpf.specs.Insn.{stored_at, to_le_bytes}
 use Rattle.ebpf.specs.declared.insn.Insn.{Insn}
 use Rattle.patches.specs.Chain.{resolved, put_off}
-use Rattle.patches.specs.Code.{Slot, Emission, em, push1, insn, outs, put_insn, with_off}
-use Rattle.patches.specs.Code.Slot.{fixed}
-use Rattle.patches.specs.declared.Patches.{Patches}
+use Rattle.patches.specs.Code.{Slot, insn, outs, put_insn}
 use Rattle.program.specs.Program.{code_of}
 use Rattle.program.proofs.Bytes.{code_length}
 use Rattle.patches.specs.Listing.{set_off, resolved_l, listed, Begins}
@@ -69,31 +67,6 @@ resolved_begins t (p ∷ ps) is o b = go (ltb 32767 (t - suc p)) (resolved_begin
     go true e = b
     go false e = e
 
--- The distance of the instruction that was written last; where there was no room for it, none was written.
-set_past : (m k v : ℕ) (t x : List ℕ) → m ≡ length t + k → set (t ++ x) m v ≡ t ++ set x k v
-set_past m k v [] x e = let z : m ≡ k = omega (arith, e) in ap (λ (q : ℕ). set x q v) z
-set_past m k v (y ∷ t) x e =
-    let z : m ≡ suc (length t + k) = omega (arith, e) in
-    ap (λ (q : ℕ). set (y ∷ (t ++ x)) q v) z ∙ ap (λ r. y ∷ r) (set_past (length t + k) k v t x refl)
-
-put_split : (i : Insn) (p : ℕ) (o : List ℕ) → 8 * p + 8 ≤ length o → put_insn o p i ≡ take (8 * p) o ++ (to_le_bytes i ++ drop (8 * p + 8) o)
-unfolding put_insn stored_at to_le_bytes
-put_split i p o h = rw (le-leb (8 * p + 8) (length o) h) (sets-eq (to_le_bytes i) o (8 * p) h ∙ append_assoc (take (8 * p) o) (to_le_bytes i) (drop (8 * p + 8) o))
-
-put_off_lem : (i : Insn) (p d : ℕ) (o : List ℕ) → 8 * p + 8 ≤ length o → put_off (put_insn o p i) p d ≡ put_insn o p (with_off d i)
-unfolding put_off to_le_bytes with_off
-put_off_lem i p d o h =
-    let front : length (take (8 * p) o) ≡ 8 * p = length-take-le (8 * p) o (omega arith) in
-    let rest = drop (8 * p + 8) o in
-    ap (λ (x : List ℕ). put_off x p d) (put_split i p o h)
-    ∙ ap (λ (x : List ℕ). set x (8 * p + 3) (d / 256)) (set_past (8 * p + 2) 2 (d % 256) (take (8 * p) o) (to_le_bytes i ++ rest) (omega (arith, front)))
-    ∙ set_past (8 * p + 3) 3 (d / 256) (take (8 * p) o) (set (to_le_bytes i ++ rest) 2 (d % 256)) (omega (arith, front))
-    ∙ sym (put_split (with_off d i) p o h)
-
-put_none : (i j : Insn) (p : ℕ) (o : List ℕ) → length o < 8 * p + 8 → put_insn o p i ≡ put_insn o p j
-unfolding put_insn stored_at
-put_none i j p o h = rw (lt-leb (8 * p + 8) (length o) h) refl
-
 pub length_put : (o : List ℕ) (p : ℕ) (i : Insn) → length (put_insn o p i) ≡ length o
 unfolding put_insn stored_at
 length_put o p i = go (leb (8 * p + 8) (length o))
@@ -101,22 +74,6 @@ length_put o p i = go (leb (8 * p + 8) (length o))
     go : (x : Bool) → length (cond x (sets o (8 * p) (to_le_bytes i)) o) ≡ length o
     go true = length-sets o (8 * p) (to_le_bytes i)
     go false = refl
-
--- So a jump is written, and its distance set.
-module _ (o w : List ℕ) (st : Patches) (i : Insn) (d : ℕ) (o1 w1 : List ℕ) (st1 : Patches) where
-  pub jumped : em o1 w1 st1 ≡ push1 (fixed i) (em o w st) → 8 * st.pos + 8 ≤ length o1
-      → em (put_off o1 st.pos d) w1 st1 ≡ push1 (fixed (with_off d i)) (em o w st)
-  unfolding push1
-  jumped h room =
-      let there : 8 * st.pos + 8 ≤ length o = omega (arith, room, ap length (ap (λ (e : Emission). e.out) h), length_put o st.pos i) in
-      ap (λ (e : Emission). em (put_off e.out st.pos d) e.work e.patches) h
-      ∙ ap (λ (x : List ℕ). em x w (record { pos = st.pos + 1; success = st.success; failure = st.failure })) (put_off_lem i st.pos d o there)
-
-  pub no_room : em o1 w1 st1 ≡ push1 (fixed i) (em o w st) → length o1 < 8 * st.pos + 8 → em o1 w1 st1 ≡ push1 (fixed (with_off d i)) (em o w st)
-  unfolding push1
-  no_room h none =
-      let nowhere : length o < 8 * st.pos + 8 = omega (arith, none, ap length (ap (λ (e : Emission). e.out) h), length_put o st.pos i) in
-      h ∙ ap (λ (x : List ℕ). em x w (record { pos = st.pos + 1; success = st.success; failure = st.failure })) (put_none i (with_off d i) st.pos o nowhere)
 
 -- How many instructions and bytes there are then.
 length_set_off : (is : List Insn) (p d : ℕ) → length (set_off is p d) ≡ length is

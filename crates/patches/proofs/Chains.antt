@@ -8,8 +8,8 @@ use borrow.Author.Tests.{lt-ltb, le-ltb, eqb-true, eqb-false, leb-true, leb-fals
 use lib.Dec.{eqb, leb}
 use lib.ListN.{get_or, length, set}
 use lib.Seq.{get_or-set_same, get_or-set_other, set_out}
-use Rattle.patches.specs.declared.Patched.TheVariants.{TooFar}
-use Rattle.patches.specs.Chain.{Descends, chain, chain_of, put_off, resolved, reach}
+use Rattle.std.specs.Prelude.{Err}
+use Rattle.patches.specs.Chain.{Descends, too_far, chain, chain_of, put_off, resolved, reach}
 
 -- A chain that descends has no more places than its head says: any larger number follows it to its end.
 pub fuel : (l : ℕ) (ls : List ℕ) → Descends l ls → (n m h : ℕ) → h ≤ l → h ≤ n → h ≤ m → chain n ls h ≡ chain m ls h
@@ -66,7 +66,7 @@ module _ (t l : ℕ) (ls o : List ℕ) (h : ℕ) (d : Descends l ls) (i : h ≤ 
   unfolding resolved
   resolved_far n = rw (look l ls h d i z) (simp (back t h z, lt-ltb 32767 (t - h) n))
 
-  pub reach_far : 32767 < t - h → reach t (chain_of ls h) ≡ TooFar
+  pub reach_far : 32767 < t - h → reach t (chain_of ls h) ≡ Err too_far
   unfolding reach
   reach_far n = rw (look l ls h d i z) (simp (back t h z, lt-ltb 32767 (t - h) n))
 

@@ -7,10 +7,10 @@ use lib.ListN.{length}
 use Rattle.ebpf.specs.declared.insn.Insn.{Insn}
 use Rattle.tree.specs.Tree.{Tree, flat}
 use Rattle.tree.specs.Tree.Tree.{leaf, and, or, inv}
-use Rattle.patches.specs.declared.Patched.{Patched}
-use Rattle.patches.specs.declared.Patched.TheVariants.{Done, TooFar}
+use Rattle.patches.specs.Chain.{Patched}
+use Rattle.std.specs.Prelude.{Ok, Err}
 use Rattle.patches.specs.Chain.{reach}
-use Rattle.patches.specs.Finish.{ja}
+use Rattle.patches.specs.Operators.{ja}
 use Rattle.patches.specs.Machine.{Tpl, size_of, cost}
 use Rattle.patches.specs.Machine.Tpl.{code, refused}
 use Rattle.patches.specs.Rel.{due}
@@ -57,8 +57,8 @@ module _ (tpl : ℕ → Tpl) (rest : List ℕ) (n : ℕ) where
       so_far = omega (arith, length_resolved_l (length is) sp is, h)
 
       go : (r : Patched) → Grown tpl rest n (when_l r (and_done_l fp (emit_l tpl b k is2)))
-      go TooFar = tt
-      go Done = and_done fp (emit_l tpl b k is2) (subst (λ (m : ℕ). Grown tpl rest m (emit_l tpl b k is2)) so_far (ih rest k is2))
+      go (Err _) = tt
+      go (Ok _) = and_done fp (emit_l tpl b k is2) (subst (λ (m : ℕ). Grown tpl rest m (emit_l tpl b k is2)) so_far (ih rest k is2))
 
   -- with the jump of Or and of Not
   jumped : (is : List Insn) (fp : List ℕ) (m : ℕ) → length is + m ≡ n → length (resolved_l (length is + 1) fp (is ++ (ja ∷ []))) + m ≡ n + 1
@@ -73,8 +73,8 @@ module _ (tpl : ℕ → Tpl) (rest : List ℕ) (n : ℕ) where
       is2 = resolved_l (length is + 1) fp (is ++ (ja ∷ []))
 
       go : (r : Patched) → Grown tpl rest (n + 1) (when_l r (or_done_l (length is ∷ sp) (emit_l tpl b k is2)))
-      go TooFar = tt
-      go Done =
+      go (Err _) = tt
+      go (Ok _) =
           or_done tpl rest (n + 1) (length is ∷ sp) (emit_l tpl b k is2)
           (subst (λ (m : ℕ). Grown tpl rest m (emit_l tpl b k is2)) (jumped tpl rest n is fp (cost tpl (flat b ++ rest) k) h) (ih rest k is2))
 
@@ -83,8 +83,8 @@ module _ (tpl : ℕ → Tpl) (rest : List ℕ) (n : ℕ) where
   not_done (ok_l is k sp fp) h = go (reach (length is + 1) fp)
     where
       go : (r : Patched) → Grown tpl rest (n + 1) (when_l r (ok_l (resolved_l (length is + 1) fp (is ++ (ja ∷ []))) k [] (length is ∷ sp)))
-      go TooFar = tt
-      go Done = jumped tpl rest n is fp (cost tpl rest k) h
+      go (Err _) = tt
+      go (Ok _) = jumped tpl rest n is fp (cost tpl rest k) h
 
 one_more : (a b : ℕ) → a + b + 1 ≡ a + (1 + b)
 one_more a b = omega arith
@@ -133,9 +133,9 @@ end_long tpl n (ok_l is k sp fp) h = go (reach (length is) sp) (reach (length is
     is2 = resolved_l (length is) sp (listed epilogue is)
 
     go : (x y : Patched) → Long (n + 4) (end_l x y (resolved_l (length is + 2) fp is2))
-    go TooFar y = tt
-    go Done TooFar = tt
-    go Done Done =
+    go (Err _) y = tt
+    go (Ok _) (Err _) = tt
+    go (Ok _) (Ok _) =
         omega (arith, length_resolved_l (length is + 2) fp is2, length_resolved_l (length is) sp (listed epilogue is), four_more is, cost_nil tpl k, h)
 
 -- THEOREM: an accepted program has the prologue's two instructions, what the tokens ask for, and the two exits' four.

@@ -9,8 +9,8 @@ use Rattle.ebpf.specs.Insn.{new, ldx, to_be, alu64_reg, alu64_imm, jump_reg, jum
 use Rattle.ebpf.specs.declared.insn.Insn.{Insn}
 use Rattle.ebpf.proofs.Examples.{k2_insns, k2}
 use Rattle.tree.specs.Tree.Tree.{leaf, and, or, inv}
-use Rattle.patches.specs.declared.Patched.TheVariants.{Done, TooFar}
-use Rattle.patches.specs.Chain.{reach, resolved, put_off}
+use Rattle.std.specs.Prelude.{Ok, Err}
+use Rattle.patches.specs.Chain.{too_far, reach, resolved, put_off}
 use Rattle.patches.specs.Code.{Slot, put_insn, outs, successes, failures}
 use Rattle.patches.specs.Code.Slot.{fixed, failure}
 use Rattle.patches.specs.Finish.{finish_ops}
@@ -48,13 +48,13 @@ unfolding compile_l emit_l listed prologue epilogue ended_l resolved_l set_off r
 not_program = refl
 
 -- "jump distance above 32767": from place 0 to 32768, and one further.
-as_far : reach 32768 (0 ∷ []) ≡ Done
+as_far : reach 32768 (0 ∷ []) ≡ Ok tt
 unfolding reach
 as_far = refl
 
-too_far : reach 32769 (0 ∷ []) ≡ TooFar
+beyond : reach 32769 (0 ∷ []) ≡ Err too_far
 unfolding reach
-too_far = refl
+beyond = refl
 
 -- "Of 10 to 19 the one the Rust meets first is given", with the number of its primitive.
 first_refused : compile_l (λ k. cond (eqb k 0) (one k) (refused (15 + k))) (or leaf (and leaf leaf)) ≡ stopped_l 16 1

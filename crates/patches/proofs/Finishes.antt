@@ -7,17 +7,18 @@ use native.Mathlib.Omega.{arith}
 use lib.Dec.{eqb}
 use lib.ListN.{length, get_or}
 use Rattle.patches.specs.declared.Patches.{Patches}
-use Rattle.patches.specs.declared.Patched.{Patched}
-use Rattle.patches.specs.declared.Patched.TheVariants.{Done, TooFar}
+use Rattle.std.specs.Prelude.{Result, Ok, Err}
+use Rattle.refusals.specs.declared.Reason.TheVariants.{FarJump}
+use Rattle.patches.specs.declared.TooFar.{TooFar}
 use Rattle.patches.specs.declared.Closed.{Closed}
-use Rattle.patches.specs.declared.Closed.TheVariants.{Up, Stay, Far}
-use Rattle.patches.specs.declared.Finished.TheVariants.{Wait, Whole, Refused}
-use Rattle.patches.specs.Chain.{reach, resolved}
-use Rattle.patches.specs.Code.{put_insn}
+use Rattle.patches.specs.declared.Closed.TheVariants.{Up, Stay}
+use Rattle.patches.specs.Chain.{Patched, reach, resolved}
+use Rattle.patches.specs.Code.{Emission, put_insn}
 use Rattle.patches.specs.Rel.{AND_RIGHT, OR_RIGHT, AND_DONE, OR_DONE, Frame, Stack, Rel, SomeTop, due, owed}
 use Rattle.patches.specs.Rel.Frame.{frame}
 use Rattle.patches.specs.Rel.Stack.{bottom as floor, over}
-use Rattle.patches.specs.Finish.{ja, Step, close_op, near, StepOk, CloseOk, Ending, on_step, finish_ops, EndingOk}
+use Rattle.patches.specs.Finish.{Step, close_op, near, StepOk, CloseOk, Ending, on_step, finish_ops, EndingOk}
+use Rattle.patches.specs.Operators.{ja}
 use Rattle.patches.specs.Finish.Step.{far, up, stay}
 use Rattle.patches.specs.Finish.Ending.{refuse, wait, whole}
 use Rattle.patches.proofs.Reading.{top_op}
@@ -29,8 +30,8 @@ spends (up o p sp fp) = p
 spends (stay o p op ps) = p + due op
 
 near_spends : (p : Patched) (s : Step) (m : ℕ) → spends s ≤ m → spends (near p s) ≤ m
-near_spends TooFar s m h = omega arith
-near_spends Done s m h = h
+near_spends (Err _) s m h = omega arith
+near_spends (Ok _) s m h = h
 
 step_spends : (op : ℕ) (ps : List ℕ) (pos : ℕ) (o sp fp : List ℕ) → spends (close_op op ps pos o sp fp) ≤ pos + due op
 unfolding close_op due
@@ -110,89 +111,86 @@ pub top_some : (l : ℕ) (w : List ℕ) (n : ℕ) (st : Patches) (fs : List Fram
 top_some l w n st fs sp fp lo t = record { fs = t.rest; sp = sp; fp = fp; ps = t.ps; lo = lo; lo' = t.lo'; rel = t.rel; budget = omega (arith, t.budget) }
 
 -- A reading of the numbers as they are now that ends as the first one does.
-pub record Now (l : ℕ) (end : Ending) (o w : List ℕ) (n : ℕ) (st : Patches) : Type 0 where
+pub record Now (l : ℕ) (end : Ending) (y : Emission) (n : ℕ) : Type 0 where
   pub fs : List Frame
   pub sp : List ℕ
   pub fp : List ℕ
   pub lo : ℕ
-  pub rel : Rel l w n st fs sp fp lo
-  pub budget : st.pos + owed fs ≤ l
-  pub same : end ≡ finish_ops fs st.pos o sp fp
+  pub rel : Rel l y.work n y.patches fs sp fp lo
+  pub budget : y.patches.pos + owed fs ≤ l
+  pub same : end ≡ finish_ops fs y.patches.pos y.out sp fp
 
-module _ (l : ℕ) (end : Ending) (o w : List ℕ) (n : ℕ) (st : Patches) (z : 0 < n) (y : Now l end o w n st) (o' w' : List ℕ) (r : Closed)
-    (k : CloseOk l (n - 1) o w (get_or w (l + 3 * (n - 1)) 0) st r o' w') where
+module _ (l : ℕ) (end : Ending) (y : Emission) (n : ℕ) (z : 0 < n) (v : Now l end y n) (y' : Emission) (r : Result Closed TooFar)
+    (k : CloseOk l (n - 1) (get_or y.work (l + 3 * (n - 1)) 0) y r y') where
   abbrev op : ℕ
-  op = get_or w (l + 3 * (n - 1)) 0
+  op = get_or y.work (l + 3 * (n - 1)) 0
 
-  t : Top l w n st y.fs y.sp y.fp y.lo
-  t = top l w n st y.fs y.sp y.fp y.lo z y.rel y.budget
+  abbrev pos : ℕ
+  pos = y.patches.pos
+
+  t : Top l y.work n y.patches v.fs v.sp v.fp v.lo
+  t = top l y.work n y.patches v.fs v.sp v.fp v.lo z v.rel v.budget
 
   abbrev s : Step
-  s = close_op op t.ps st.pos o y.sp y.fp
+  s = close_op op t.ps pos y.out v.sp v.fp
 
-  ok : StepOk l (n - 1) t.lo' t.rest s r o' w'
-  ok = k y.lo t.lo' t.ps t.rest y.sp y.fp t.rel (omega (arith, t.budget))
+  ok : StepOk l (n - 1) t.lo' t.rest s r y'
+  ok = k v.lo t.lo' t.ps t.rest v.sp v.fp t.rel (omega (arith, t.budget))
 
   abbrev goes : Step → Ending
   goes s = on_step s (λ o' pos' sp' fp'. finish_ops t.rest pos' o' sp' fp') (λ o' pos' op' ps'. wait o' pos' (frame op' t.lo' ps' ∷ t.rest))
 
   end_is : end ≡ goes s
   unfolding finish_ops
-  end_is = y.same ∙ ap (λ x. finish_ops x st.pos o y.sp y.fp) t.is
+  end_is = v.same ∙ ap (λ x. finish_ops x pos y.out v.sp v.fp) t.is
 
-  pub next_up : (x : Patches) → r ≡ Up x → Now l end o' w' (n - 1) x
-  next_up x e = go s ok end_is (step_spends op t.ps st.pos o y.sp y.fp)
+  pub next_up : r ≡ Ok Up → Now l end y' (n - 1)
+  next_up e = go s ok end_is (step_spends op t.ps pos y.out v.sp v.fp)
     where
-      go : (s : Step) → StepOk l (n - 1) t.lo' t.rest s r o' w' → end ≡ goes s → spends s ≤ st.pos + due op → Now l end o' w' (n - 1) x
+      go : (s : Step) → StepOk l (n - 1) t.lo' t.rest s r y' → end ≡ goes s → spends s ≤ pos + due op → Now l end y' (n - 1)
       go far u f h = let q : ◌≡◌ {A = ℕ} 0 1 = cc in absurd (omega arith)
-      go (stay o1 p1 op1 ps1) (u, v) f h = let g = v.is in let q : ◌≡◌ {A = ℕ} 0 1 = cc in absurd (omega arith)
-      go (up o1 p1 sp1 fp1) (u, v) f h =
-          let g = v.is in
-          let ex : x ≡ v.patches = cc in
-          let ep : x.pos ≡ p1 = ap (λ (v : Patches). v.pos) ex ∙ v.at in
-          record {
-            fs = t.rest;
-            sp = sp1;
-            fp = fp1;
-            lo = t.lo';
-            rel = rw ex v.rel;
-            budget = omega (arith, ep, t.budget);
-            same = f ∙ ap (λ (q : ℕ). finish_ops t.rest q o1 sp1 fp1) (sym ep) ∙ ap (λ (q : List ℕ). finish_ops t.rest x.pos q sp1 fp1) (sym u);
-          }
+      go (stay o1 p1 op1 ps1) (u, w) f h = let g = w.is in let q : ◌≡◌ {A = ℕ} 0 1 = cc in absurd (omega arith)
+      go (up o1 p1 sp1 fp1) (u, w) f h = record {
+        fs = t.rest;
+        sp = sp1;
+        fp = fp1;
+        lo = t.lo';
+        rel = w.rel;
+        budget = omega (arith, w.at, t.budget);
+        same = f ∙ ap (λ (q : ℕ). finish_ops t.rest q o1 sp1 fp1) (sym w.at) ∙ ap (λ (q : List ℕ). finish_ops t.rest y'.patches.pos q sp1 fp1) (sym u);
+      }
 
-  pub next_stay : (x : Patches) → r ≡ Stay x → 0 < n → EndingOk l end (Wait n x) o' w'
-  next_stay x e z = go s ok end_is
+  pub next_stay : r ≡ Ok Stay → EndingOk l end (Ok n) y'
+  next_stay e = go s ok end_is
     where
-      go : (s : Step) → StepOk l (n - 1) t.lo' t.rest s r o' w' → end ≡ goes s → EndingOk l end (Wait n x) o' w'
+      go : (s : Step) → StepOk l (n - 1) t.lo' t.rest s r y' → end ≡ goes s → EndingOk l end (Ok n) y'
       go far u f = let q : ◌≡◌ {A = ℕ} 0 1 = cc in absurd (omega arith)
-      go (up o1 p1 sp1 fp1) (u, v) f = let g = v.is in let q : ◌≡◌ {A = ℕ} 0 1 = cc in absurd (omega arith)
-      go (stay o1 p1 op1 ps1) (u, v) f =
-          let g = v.is in
-          let ex : x ≡ v.patches = cc in
+      go (up o1 p1 sp1 fp1) (u, w) f = let g = w.is in let q : ◌≡◌ {A = ℕ} 0 1 = cc in absurd (omega arith)
+      go (stay o1 p1 op1 ps1) (u, w) f =
           let en : suc (n - 1) ≡ n = omega arith in
           rw f (
             u,
             record {
               n = n;
-              patches = x;
+              some = z;
               is = refl;
-              at = ap (λ (v : Patches). v.pos) ex ∙ v.at;
-              rel = rw ex (subst (λ (k : ℕ). Rel l w' k v.patches (frame op1 t.lo' ps1 ∷ t.rest) [] [] p1) en v.rel);
+              at = w.at;
+              rel = subst (λ (k : ℕ). Rel l y'.work k y'.patches (frame op1 t.lo' ps1 ∷ t.rest) [] [] p1) en w.rel;
             },
           )
 
-  pub next_far : r ≡ Far → EndingOk l end (Refused 10 0) o' w'
-  next_far e = go s ok end_is
+  pub next_far : (x : TooFar) → r ≡ Err x → EndingOk l end (Err (record { reason = FarJump; place = 0 })) y'
+  next_far x e = go s ok end_is
     where
-      go : (s : Step) → StepOk l (n - 1) t.lo' t.rest s r o' w' → end ≡ goes s → EndingOk l end (Refused 10 0) o' w'
+      go : (s : Step) → StepOk l (n - 1) t.lo' t.rest s r y' → end ≡ goes s → EndingOk l end (Err (record { reason = FarJump; place = 0 })) y'
       go far u f = rw f refl
-      go (up o1 p1 sp1 fp1) (u, v) f = let g = v.is in let q : ◌≡◌ {A = ℕ} 0 1 = cc in absurd (omega arith)
-      go (stay o1 p1 op1 ps1) (u, v) f = let g = v.is in let q : ◌≡◌ {A = ℕ} 0 1 = cc in absurd (omega arith)
+      go (up o1 p1 sp1 fp1) (u, w) f = let g = w.is in let q : ◌≡◌ {A = ℕ} 0 1 = cc in absurd (omega arith)
+      go (stay o1 p1 op1 ps1) (u, w) f = let g = w.is in let q : ◌≡◌ {A = ℕ} 0 1 = cc in absurd (omega arith)
 
-pub bottom : (l : ℕ) (end : Ending) (o w : List ℕ) (n : ℕ) (st : Patches) → n ≡ 0 → Now l end o w n st → EndingOk l end (Whole st) o w
+pub bottom : (l : ℕ) (end : Ending) (y : Emission) (n : ℕ) → n ≡ 0 → Now l end y n → EndingOk l end (Ok 0) y
 unfolding finish_ops
-bottom l end o w n st z y = go n y.fs z y.rel y.rel.stack y.same
+bottom l end y n z v = go n v.fs z v.rel v.rel.stack v.same
   where
-    go : (n : ℕ) (fs : List Frame) → n ≡ 0 → Rel l w n st fs y.sp y.fp y.lo → Stack l w n fs y.lo → end ≡ finish_ops fs st.pos o y.sp y.fp → EndingOk l end (Whole st) o w
-    go n fs z r floor e = rw e (refl, record { patches = st; lo = y.lo; is = refl; at = refl; rel = r })
+    go : (n : ℕ) (fs : List Frame) → n ≡ 0 → Rel l y.work n y.patches fs v.sp v.fp v.lo → Stack l y.work n fs v.lo → end ≡ finish_ops fs y.patches.pos y.out v.sp v.fp → EndingOk l end (Ok 0) y
+    go n fs z r floor e = rw e (refl, record { lo = v.lo; is = refl; at = refl; rel = r })
     go n fs z r (over g e k s) f = absurd (omega (arith, z))

@@ -7,11 +7,11 @@ use lib.ListN.{length}
 use Rattle.ebpf.specs.declared.insn.Insn.{Insn}
 use Rattle.tree.specs.Tree.{Tree, flat}
 use Rattle.tree.specs.Tree.Tree.{leaf, and, or, inv}
-use Rattle.patches.specs.declared.Patched.{Patched}
-use Rattle.patches.specs.declared.Patched.TheVariants.{Done, TooFar}
+use Rattle.patches.specs.Chain.{Patched}
+use Rattle.std.specs.Prelude.{Ok, Err}
 use Rattle.patches.specs.Chain.{reach, resolved}
 use Rattle.patches.specs.Code.{Slot, outs, put_insn, successes, failures}
-use Rattle.patches.specs.Finish.{ja}
+use Rattle.patches.specs.Operators.{ja}
 use Rattle.patches.specs.Machine.{Tpl}
 use Rattle.patches.specs.Machine.Tpl.{code, refused}
 use Rattle.patches.specs.Whole.{Comp, compiled, ended, end_of, prologue, epilogue}
@@ -95,8 +95,8 @@ module _ (tpl : ℕ → Tpl) (len lo : ℕ) where
       (go (reach p sp))
     where
       go : (r : Patched) → Sim len lo (when r (and_done fp (emit tpl b k p (resolved p sp o)))) (when_l r (and_done_l fp (emit_l tpl b k (resolved_l p sp is))))
-      go TooFar = both_fail
-      go Done = and_done_lem len lo p fp _ _ h (ih k len p (resolved p sp o) (resolved_l p sp is) (written_resolved p sp w))
+      go (Err _) = both_fail
+      go (Ok _) = and_done_lem len lo p fp _ _ h (ih k len p (resolved p sp o) (resolved_l p sp is) (written_resolved p sp w))
 
   or_right_lem : (b : Tree) → Law tpl b → (e : Res) (l : ResL) → Sim len lo e l
       → Sim len lo (or_right e (λ k p o. emit tpl b k p o)) (or_right_l l (λ k is. emit_l tpl b k is))
@@ -118,8 +118,8 @@ module _ (tpl : ℕ → Tpl) (len lo : ℕ) where
       later = omega arith
 
       go : (r : Patched) → Sim len lo (when r (or_done (p ∷ sp) (emit tpl b k (p + 1) o2))) (when_l r (or_done_l (p ∷ sp) (emit_l tpl b k is2)))
-      go TooFar = both_fail
-      go Done = or_done_lem len lo (p + 1) (p ∷ sp) _ _ later (ih k len (p + 1) o2 is2 (written_resolved (p + 1) fp (written_ja w)))
+      go (Err _) = both_fail
+      go (Ok _) = or_done_lem len lo (p + 1) (p ∷ sp) _ _ later (ih k len (p + 1) o2 is2 (written_resolved (p + 1) fp (written_ja w)))
 
   not_done_lem : (e : Res) (l : ResL) → Sim len lo e l → Sim len lo (not_done e) (not_done_l l)
   not_done_lem e l both_fail = both_fail
@@ -135,8 +135,8 @@ module _ (tpl : ℕ → Tpl) (len lo : ℕ) where
 
       go : (r : Patched) → Sim len lo (when r (ok (resolved (p + 1) fp (put_insn o p ja)) k (p + 1) [] (p ∷ sp)))
           (when_l r (ok_l (resolved_l (p + 1) fp (is ++ (ja ∷ []))) k [] (p ∷ sp)))
-      go TooFar = both_fail
-      go Done = both_ok later (written_resolved (p + 1) fp (written_ja w))
+      go (Err _) = both_fail
+      go (Ok _) = both_ok later (written_resolved (p + 1) fp (written_ja w))
 
 emit_sim : (tpl : ℕ → Tpl) (t : Tree) → Law tpl t
 unfolding emit emit_l
@@ -174,9 +174,9 @@ end_sim len lo e l (both_ok {o = o} {p = p} {sp = sp} {fp = fp} {is = is} h w) =
     begins h = w2.begins (omega (arith, w2.at))
 
     go : (x y : Patched) → Same len (end_of x y o2) (end_l x y is2)
-    go TooFar y = no_code
-    go Done TooFar = no_code
-    go Done Done = program begins
+    go (Err _) y = no_code
+    go (Ok _) (Err _) = no_code
+    go (Ok _) (Ok _) = program begins
 
 -- Nothing is written yet.
 written_none : (o : List ℕ) → Written (length o) 0 o []

@@ -7,10 +7,11 @@ use native.Mathlib.Numerals.{add-one}
 use borrow.Author.Tests.{ne_eqb}
 use lib.ListN.{length, get_or, drop, drop_of_length-le}
 use lib.Seq.{drop-cons}
-use Rattle.patches.specs.declared.Patches.{Patches}
-use Rattle.patches.specs.declared.Finished.{Finished}
-use Rattle.patches.specs.declared.Finished.TheVariants.{Wait, Whole, Refused}
-use Rattle.patches.specs.Code.{Slot, Emission, em, block, outs, successes, failures}
+use Rattle.std.specs.Prelude.{Result, Ok, Err}
+use Rattle.refusals.specs.declared.Refusal.{Refusal}
+use Rattle.refusals.specs.Refusal.{number_of, told}
+use Rattle.refusals.specs.Refusal.Answer.{Refused, Given}
+use Rattle.patches.specs.Code.{Slot, Emission, block, outs, successes, failures}
 use Rattle.patches.specs.Rel.{Frame, Rel, Some, SomeLeaf, owed, due}
 use Rattle.patches.specs.Rel.Frame.{frame}
 use Rattle.patches.specs.Same.{SameFrom}
@@ -23,64 +24,53 @@ use Rattle.patches.proofs.Finishes.{spends_end, waits_end, spent, fewer}
 use Rattle.patches.proofs.Unchanged.{from_outs, from_block}
 
 -- A primitive is written: the operators that wait then end as `emit_leaf` says.
-record Leafed (l n k : ℕ) (xs : List Slot) (fs : List Frame) (o : List ℕ) (st : Patches) (o1 w1 : List ℕ) (x : Patches) : Type 0 where
+record Leafed (l n k : ℕ) (xs : List Slot) (fs : List Frame) (y y1 : Emission) : Type 0 where
   sp : List ℕ
   fp : List ℕ
-  rel : Rel l w1 n x fs sp fp st.pos
-  budget : x.pos + owed fs ≤ l
-  same : emit_leaf (code xs) k fs st.pos o ≡ finish_ops fs x.pos o1 sp fp
+  rel : Rel l y1.work n y1.patches fs sp fp y.patches.pos
+  budget : y1.patches.pos + owed fs ≤ l
+  same : emit_leaf (code xs) k fs y.patches.pos y.out ≡ finish_ops fs y1.patches.pos y1.out sp fp
 
-module _ (l n k : ℕ) (xs : List Slot) (o w : List ℕ) (st : Patches) (o1 w1 : List ℕ) (x : Patches) (e : em o1 w1 x ≡ block xs (em o w st)) where
-  w_is : (block xs (em o w st)).work ≡ w1
-  w_is = sym (ap (λ (v : Emission). v.work) e)
-
-  x_is : (block xs (em o w st)).patches ≡ x
-  x_is = sym (ap (λ (v : Emission). v.patches) e)
-
-  o_is : o1 ≡ outs xs st.pos o
-  o_is = ap (λ (v : Emission). v.out) e ∙ out_block xs (em o w st)
-
-  p_is : x.pos ≡ st.pos + length xs
-  p_is = ap (λ (v : Patches). v.pos) (sym x_is) ∙ pos_block xs (em o w st)
-
-  leafed : (fs : List Frame) → Rel l w n st fs [] [] st.pos → st.pos + length xs + owed fs ≤ l → Leafed l n k xs fs o st o1 w1 x
+module _ (l n k : ℕ) (xs : List Slot) (y y1 : Emission) (e : y1 ≡ block xs y) where
+  leafed : (fs : List Frame) → Rel l y.work n y.patches fs [] [] y.patches.pos → y.patches.pos + length xs + owed fs ≤ l → Leafed l n k xs fs y y1
   unfolding emit_leaf
   leafed fs rel b =
-      let sp = successes st.pos xs [] in
-      let fp = failures st.pos xs [] in
-      let r0 = rel_block l n fs st.pos xs (em o w st) [] [] (omega arith) rel in
-      let r1 = subst (λ (v : List ℕ). Rel l v n (block xs (em o w st)).patches fs sp fp st.pos) w_is r0 in
-      record {
+      let pos = y.patches.pos in
+      let sp = successes pos xs [] in
+      let fp = failures pos xs [] in
+      subst (λ (v : Emission). Leafed l n k xs fs y v) (sym e) (record {
         sp = sp;
         fp = fp;
-        rel = subst (λ (v : Patches). Rel l w1 n v fs sp fp st.pos) x_is r1;
-        budget = omega (arith, p_is);
-        same = ap (λ (v : ℕ). finish_ops fs v (outs xs st.pos o) sp fp) (sym p_is) ∙ ap (λ (v : List ℕ). finish_ops fs x.pos v sp fp) (sym o_is);
-      }
+        rel = rel_block l n fs pos xs y [] [] (omega arith) rel;
+        budget = omega (arith, pos_block xs y);
+        same =
+            ap (λ (v : ℕ). finish_ops fs v (outs xs pos y.out) sp fp) (sym (pos_block xs y))
+            ∙ ap (λ (v : List ℕ). finish_ops fs (block xs y).patches.pos v sp fp) (sym (out_block xs y));
+      })
 
   -- What `finish` asks.
-  pub leaf_some : SomeLeaf l w n st (length xs) → Some l w1 n x
+  pub leaf_some : SomeLeaf l y.work n y.patches (length xs) → Some l y1.work n y1.patches
   leaf_some s =
       let v = leafed s.fs s.rel s.budget in
-      record { fs = s.fs; sp = v.sp; fp = v.fp; lo = st.pos; rel = v.rel; budget = v.budget }
+      record { fs = s.fs; sp = v.sp; fp = v.fp; lo = y.patches.pos; rel = v.rel; budget = v.budget }
 
   -- What stays.
-  pub leaf_from : SomeLeaf l w n st (length xs) → SameFrom (8 * l) o o1 × SameFrom l w w1
+  pub leaf_from : SomeLeaf l y.work n y.patches (length xs) → SameFrom (8 * l) y.out y1.out × SameFrom l y.work y1.work
   leaf_from s =
-      let h : st.pos + length xs ≤ l = omega (arith, s.budget) in
-      (rw o_is (from_outs l xs st.pos o h), subst (λ (v : List ℕ). SameFrom l w v) w_is (from_block l xs (em o w st) h))
+      let h : y.patches.pos + length xs ≤ l = omega (arith, s.budget) in
+      (rw (e, out_block xs y) (from_outs l xs y.patches.pos y.out h), rw e (from_block l xs y h))
 
   -- The primitive, then `finish`.
-  pub leaf_code : (t : Tpl) → t ≡ code xs → (r : Finished) (o2 w2 : List ℕ) → FinishOk l o1 w1 n x r o2 w2 → LeafOk l n k t o w st r o2 w2
-  leaf_code t q r o2 w2 a fs rel b =
+  pub leaf_code : (t : Tpl) → t ≡ code xs → (r : Result ℕ Refusal) (y2 : Emission) → FinishOk l n y1 r y2 → LeafOk l n k t y r y2
+  leaf_code t q r y2 a fs rel b =
       let size : size_of t ≡ length xs = ap size_of q in
       let v = leafed fs rel (omega arith) in
-      subst (λ (f : Ending). EndingOk l f r o2 w2) (sym (ap (λ u. emit_leaf u k fs st.pos o) q ∙ v.same)) (a fs v.sp v.fp st.pos v.rel v.budget)
+      subst (λ (f : Ending). EndingOk l f r y2) (sym (ap (λ u. emit_leaf u k fs y.patches.pos y.out) q ∙ v.same)) (a fs v.sp v.fp y.patches.pos v.rel v.budget)
 
 -- A primitive that is refused.
-pub leaf_refused : (l n k c : ℕ) (t : Tpl) → t ≡ refused c → (o w : List ℕ) (st : Patches) (o1 w1 : List ℕ) → LeafOk l n k t o w st (Refused c k) o1 w1
+pub leaf_refused : (l n k c : ℕ) (t : Tpl) → t ≡ refused c → (x : Refusal) → number_of x.reason ≡ c → x.place ≡ k → (y y1 : Emission) → LeafOk l n k t y (Err x) y1
 unfolding emit_leaf
-leaf_refused l n k c t q o w st o1 w1 fs rel b = rw q refl
+leaf_refused l n k c t q x en ep y y1 fs rel b = rw q cc
 
 -- No more instructions than the primitive has and than are due.
 pub leaf_spends : (t : Tpl) (k : ℕ) (fs : List Frame) (pos : ℕ) (o : List ℕ) → spends_end (emit_leaf t k fs pos o) ≤ pos + size_of t + owed fs
@@ -95,53 +85,51 @@ leaf_fewer (refused c) k fs pos o = omega arith
 leaf_fewer (code xs) k fs pos o = fewer fs (pos + length xs) (outs xs pos o) (successes pos xs []) (failures pos xs [])
 
 -- What an answer tells: operators wait,
-pub record Goes (l : ℕ) (f : Ending) (n : ℕ) (st : Patches) (o w : List ℕ) : Type 0 where
+pub record Goes (l : ℕ) (f : Ending) (n : ℕ) (y : Emission) : Type 0 where
   pub fs : List Frame
-  pub is : f ≡ wait o st.pos fs
-  pub rel : Rel l w n st fs [] [] st.pos
+  pub is : f ≡ wait y.out y.patches.pos fs
+  pub rel : Rel l y.work n y.patches fs [] [] y.patches.pos
 
-pub ending_waits : (l : ℕ) (f : Ending) (r : Finished) (o w : List ℕ) (n : ℕ) (st : Patches) → EndingOk l f r o w → r ≡ Wait n st → Goes l f n st o w
-ending_waits l (refuse c i) r o w n st k e = let z : ◌≡◌ {A = ℕ} 0 1 = cc in absurd (omega arith)
-ending_waits l (whole o' pos sp fp) r o w n st (k, v) e = let g = v.is in let z : ◌≡◌ {A = ℕ} 0 1 = cc in absurd (omega arith)
-ending_waits l (wait o' pos fs) r o w n st (k, v) e =
+pub ending_waits : (l : ℕ) (f : Ending) (r : Result ℕ Refusal) (y : Emission) (n : ℕ) → EndingOk l f r y → r ≡ Ok n → 0 < n → Goes l f n y
+ending_waits l (refuse c i) r y n k e z = let t : told r ≡ Given n = ap told e in let q : ◌≡◌ {A = ℕ} 0 1 = cc in absurd (omega arith)
+ending_waits l (whole o' pos sp fp) r y n (k, v) e z = let g = v.is in let q : n ≡ 0 = cc in absurd (omega arith)
+ending_waits l (wait o' pos fs) r y n (k, v) e z =
     let g = v.is in
     let en : n ≡ v.n = cc in
-    let ex : st ≡ v.patches = cc in
-    let ep : st.pos ≡ pos = ap (λ (x : Patches). x.pos) ex ∙ v.at in
     record {
       fs = fs;
-      is = ap (λ q. wait q pos fs) (sym k) ∙ ap (λ q. wait o q fs) (sym ep);
-      rel = subst (λ (q : ℕ). Rel l w n st fs [] [] q) (sym ep) (rw (en, ex) v.rel);
+      is = ap (λ q. wait q pos fs) (sym k) ∙ ap (λ q. wait y.out q fs) (sym v.at);
+      rel = subst (λ (q : ℕ). Rel l y.work n y.patches fs [] [] q) (sym v.at) (rw en v.rel);
     }
 
 -- none is left,
-pub record Over (l : ℕ) (f : Ending) (st : Patches) (o w : List ℕ) : Type 0 where
+pub record Over (l : ℕ) (f : Ending) (y : Emission) : Type 0 where
   pub sp : List ℕ
   pub fp : List ℕ
   pub lo : ℕ
-  pub is : f ≡ whole o st.pos sp fp
-  pub rel : Rel l w 0 st [] sp fp lo
+  pub is : f ≡ whole y.out y.patches.pos sp fp
+  pub rel : Rel l y.work 0 y.patches [] sp fp lo
 
-pub ending_whole : (l : ℕ) (f : Ending) (r : Finished) (o w : List ℕ) (st : Patches) → EndingOk l f r o w → r ≡ Whole st → Over l f st o w
-ending_whole l (refuse c i) r o w st k e = let z : ◌≡◌ {A = ℕ} 0 1 = cc in absurd (omega arith)
-ending_whole l (wait o' pos fs) r o w st (k, v) e = let g = v.is in let z : ◌≡◌ {A = ℕ} 0 1 = cc in absurd (omega arith)
-ending_whole l (whole o' pos sp fp) r o w st (k, v) e =
-    let g = v.is in
-    let ex : st ≡ v.patches = cc in
-    let ep : st.pos ≡ pos = ap (λ (x : Patches). x.pos) ex ∙ v.at in
-    record {
-      sp = sp;
-      fp = fp;
-      lo = v.lo;
-      is = ap (λ q. whole q pos sp fp) (sym k) ∙ ap (λ q. whole o q sp fp) (sym ep);
-      rel = rw ex v.rel;
-    }
+pub ending_whole : (l : ℕ) (f : Ending) (r : Result ℕ Refusal) (y : Emission) → EndingOk l f r y → r ≡ Ok 0 → Over l f y
+ending_whole l (refuse c i) r y k e = let t : told r ≡ Given 0 = ap told e in let z : ◌≡◌ {A = ℕ} 0 1 = cc in absurd (omega arith)
+ending_whole l (wait o' pos fs) r y (k, v) e = let g = v.is in let z : v.n ≡ 0 = cc in absurd (omega (arith, v.some))
+ending_whole l (whole o' pos sp fp) r y (k, v) e = record {
+  sp = sp;
+  fp = fp;
+  lo = v.lo;
+  is = ap (λ q. whole q pos sp fp) (sym k) ∙ ap (λ q. whole y.out q sp fp) (sym v.at);
+  rel = v.rel;
+}
 
 -- or a refusal.
-pub ending_refused : (l : ℕ) (f : Ending) (r : Finished) (o w : List ℕ) (c i : ℕ) → EndingOk l f r o w → r ≡ Refused c i → f ≡ refuse c i
-ending_refused l (refuse d j) r o w c i k e = let a : d ≡ c = cc in let b : j ≡ i = cc in rw (a, b) refl
-ending_refused l (wait o' pos fs) r o w c i (k, v) e = let g = v.is in let z : ◌≡◌ {A = ℕ} 0 1 = cc in absurd (omega arith)
-ending_refused l (whole o' pos sp fp) r o w c i (k, v) e = let g = v.is in let z : ◌≡◌ {A = ℕ} 0 1 = cc in absurd (omega arith)
+pub ending_refused : (l : ℕ) (f : Ending) (r : Result ℕ Refusal) (y : Emission) (x : Refusal) → EndingOk l f r y → r ≡ Err x → f ≡ refuse (number_of x.reason) x.place
+ending_refused l (refuse d j) r y x k e =
+    let t : told r ≡ Refused (number_of x.reason) x.place = ap told e in
+    let a : d ≡ number_of x.reason = cc in
+    let b : j ≡ x.place = cc in
+    rw (a, b) refl
+ending_refused l (wait o' pos fs) r y x (k, v) e = let g = v.is in let z : ◌≡◌ {A = ℕ} 0 1 = cc in absurd (omega arith)
+ending_refused l (whole o' pos sp fp) r y x (k, v) e = let g = v.is in let z : ◌≡◌ {A = ℕ} 0 1 = cc in absurd (omega arith)
 
 -- Token i, an operator or a primitive.
 module _ (tpl : ℕ → Tpl) (ts : List ℕ) (i k : ℕ) (h : i < length ts) where

@@ -4,13 +4,14 @@ use mathlib.Core.Path.{◌≡◌, refl, sym, ap, ◌∙◌}
 use mathlib.Core.List.{List, [], ◌∷◌, ◌++◌, append_assoc, append-nil}
 use Rattle.tree.specs.Tree.{Tree, flat}
 use Rattle.tree.specs.Tree.Tree.{leaf, and, or, inv}
-use Rattle.patches.specs.declared.Patched.{Patched}
-use Rattle.patches.specs.declared.Patched.TheVariants.{Done, TooFar}
+use Rattle.patches.specs.Chain.{Patched}
+use Rattle.std.specs.Prelude.{Ok, Err}
 use Rattle.patches.specs.Chain.{reach, resolved}
 use Rattle.patches.specs.Code.{outs, put_insn}
 use Rattle.patches.specs.Rel.{AND_RIGHT, OR_RIGHT, NOT_DONE, AND_DONE, OR_DONE, Frame}
 use Rattle.patches.specs.Rel.Frame.{frame}
-use Rattle.patches.specs.Finish.{ja, Step, Ending, finish_ops, close_op, near, on_step}
+use Rattle.patches.specs.Finish.{Step, Ending, finish_ops, close_op, near, on_step}
+use Rattle.patches.specs.Operators.{ja}
 use Rattle.patches.specs.Finish.Step.{up, stay}
 use Rattle.patches.specs.Finish.Ending.{refuse, wait}
 use Rattle.patches.specs.Machine.{Tpl, run, emit_leaf, go_on}
@@ -58,8 +59,8 @@ module _ (tpl : ℕ → Tpl) (lo : ℕ) (fs : List Frame) (rest : List ℕ) wher
     where
       go : (r : Patched) → next (near r (stay (resolved p sp o) p AND_DONE fp)) k (flat b ++ rest)
           ≡ after tpl (when r (and_done fp (emit tpl b k p (resolved p sp o)))) fs rest
-      go TooFar = refl
-      go Done = ih rest k p (resolved p sp o) (frame AND_DONE lo fp ∷ fs) ∙ and_done_lem fp (emit tpl b k p (resolved p sp o))
+      go (Err _) = refl
+      go (Ok _) = ih rest k p (resolved p sp o) (frame AND_DONE lo fp ∷ fs) ∙ and_done_lem fp (emit tpl b k p (resolved p sp o))
 
   or_right_lem : (b : Tree) → Law tpl b → (e : Res)
       → after tpl e (frame OR_RIGHT lo [] ∷ fs) (flat b ++ rest) ≡ after tpl (or_right e (λ k p o. emit tpl b k p o)) fs rest
@@ -69,8 +70,8 @@ module _ (tpl : ℕ → Tpl) (lo : ℕ) (fs : List Frame) (rest : List ℕ) wher
     where
       go : (r : Patched) → next (near r (stay (resolved (p + 1) fp (put_insn o p ja)) (p + 1) OR_DONE (p ∷ sp))) k (flat b ++ rest)
           ≡ after tpl (when r (or_done (p ∷ sp) (emit tpl b k (p + 1) (resolved (p + 1) fp (put_insn o p ja))))) fs rest
-      go TooFar = refl
-      go Done =
+      go (Err _) = refl
+      go (Ok _) =
           ih rest k (p + 1) (resolved (p + 1) fp (put_insn o p ja)) (frame OR_DONE lo (p ∷ sp) ∷ fs)
           ∙ or_done_lem (p ∷ sp) (emit tpl b k (p + 1) (resolved (p + 1) fp (put_insn o p ja)))
 
@@ -81,8 +82,8 @@ module _ (tpl : ℕ → Tpl) (lo : ℕ) (fs : List Frame) (rest : List ℕ) wher
     where
       go : (r : Patched) → next (near r (up (resolved (p + 1) fp (put_insn o p ja)) (p + 1) [] (p ∷ sp))) k rest
           ≡ after tpl (when r (ok (resolved (p + 1) fp (put_insn o p ja)) k (p + 1) [] (p ∷ sp))) fs rest
-      go TooFar = refl
-      go Done = refl
+      go (Err _) = refl
+      go (Ok _) = refl
 
 -- THEOREM: the walk over the tokens is the recursion on the tree.
 pub run_tree : (tpl : ℕ → Tpl) (t : Tree) → Law tpl t

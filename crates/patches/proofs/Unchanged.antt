@@ -6,7 +6,7 @@ use mathlib.Core.Bool.{Bool, true, false, cond}
 use native.Mathlib.Omega.{arith}
 use borrow.Author.Tests.{eqb-false}
 use lib.Dec.{eqb, leb, ltb}
-use lib.ListN.{get_or, length, set}
+use lib.ListN.{get_or, length, set, length-set}
 use lib.Seq.{sets, get_or-set_other}
 use Rattle.ebpf.specs.Insn.{stored_at, to_le_bytes}
 use Rattle.ebpf.specs.declared.insn.Insn.{Insn}
@@ -15,7 +15,8 @@ use Rattle.patches.specs.Chain.{put_off, resolved}
 use Rattle.patches.specs.Lists.{save_at, joined_links, pushed_links}
 use Rattle.patches.specs.Code.{put_insn, Slot, insn, outs, Emission, block, push1}
 use Rattle.patches.specs.Code.Slot.{fixed, success, failure}
-use Rattle.patches.specs.Same.{SameFrom}
+use Rattle.patches.specs.Same.{SameFrom, Kept}
+use Rattle.patches.proofs.Bytes.{length_put}
 use Rattle.patches.proofs.Places.{AllLt}
 use Rattle.patches.proofs.Places.AllLt.{lt_cons}
 
@@ -91,3 +92,31 @@ unfolding block
 from_block l [] e h p j = refl
 from_block l (x ∷ xs) e h p j =
     from_block l xs (push1 x e) (omega (arith, push_pos x e)) p j ∙ from_push l x e (omega arith) p j
+
+-- What stays: mode, link, buffers and their lengths.
+pub kept_trans : {a b c : Emission} → Kept a b → Kept b c → Kept a c
+kept_trans h k = record { setting = k.setting ∙ h.setting; out_len = k.out_len ∙ h.out_len; work_len = k.work_len ∙ h.work_len }
+
+pub length_join : (w : List ℕ) (a b : PatchList) → length (joined_links w a b) ≡ length w
+unfolding joined_links
+length_join w a b = go (eqb a.head 0) (eqb b.head 0)
+  where
+    go : (x y : Bool) → length (cond x w (cond y w (set w a.tail b.head))) ≡ length w
+    go true y = refl
+    go false true = refl
+    go false false = length-set w a.tail b.head
+
+pub length_save : (w : List ℕ) (b op : ℕ) (x : PatchList) → length (save_at w b op x) ≡ length w
+unfolding save_at
+length_save w b op x = simp length-set
+
+pub push_kept : (x : Slot) (e : Emission) → Kept e (push1 x e)
+unfolding push1 pushed_links
+push_kept (fixed i) e = record { setting = refl; out_len = length_put e.out e.patches.pos i; work_len = refl }
+push_kept (success i) e = record { setting = refl; out_len = length_put e.out e.patches.pos i; work_len = length-set e.work e.patches.pos e.patches.success.head }
+push_kept (failure i) e = record { setting = refl; out_len = length_put e.out e.patches.pos i; work_len = length-set e.work e.patches.pos e.patches.failure.head }
+
+pub block_kept : (xs : List Slot) (e : Emission) → Kept e (block xs e)
+unfolding block
+block_kept [] e = record { setting = refl; out_len = refl; work_len = refl }
+block_kept (x ∷ xs) e = kept_trans (push_kept x e) (block_kept xs (push1 x e))

@@ -1,7 +1,6 @@
 -- A list of patches is a chain in `work`: number p holds the place of the next patch plus one, 0 at the end; the last patch stands first.
-use Rattle.std.specs.Prelude.{ℕ, zero, suc, ◌+◌, ◌-◌, ◌*◌, ◌/◌, ◌%◌, ◌<◌, ◌≤◌, List, [], ◌∷◌, cond, ltb, get_or, set}
-use Rattle.patches.specs.declared.Patched.{Patched}
-use Rattle.patches.specs.declared.Patched.TheVariants.{Done, TooFar}
+use Rattle.std.specs.Prelude.{Result, Ok, Err, ℕ, zero, suc, ◌+◌, ◌-◌, ◌*◌, ◌/◌, ◌%◌, ◌<◌, ◌≤◌, List, [], ◌∷◌, cond, ltb, get_or, set}
+use Rattle.patches.specs.declared.TooFar.{TooFar}
 
 -- No link of the first l leads to a later place, nor to its own.
 abbrev pub Descends : ℕ → List ℕ → Type 0
@@ -28,6 +27,12 @@ resolved target (p ∷ ps) out =
     cond (ltb 32767 (target - suc p)) out (resolved target ps (put_off out p (target - suc p)))
 
 -- Refusal 10, "jump distance above 32767": whether a jump is too far.
+abbrev pub too_far : TooFar
+too_far = record {}
+
+abbrev pub Patched : Type 0
+Patched = Result (Unit {0}) TooFar
+
 unfoldable pub reach : ℕ → List ℕ → Patched
-reach target [] = Done
-reach target (p ∷ ps) = cond (ltb 32767 (target - suc p)) TooFar (reach target ps)
+reach target [] = Ok tt
+reach target (p ∷ ps) = cond (ltb 32767 (target - suc p)) (Err too_far) (reach target ps)

@@ -1,22 +1,17 @@
 -- What the Rust does when an operand is done: the operators that waited for it, the innermost first.
-use Rattle.std.specs.Prelude.{ℕ, suc, ◌+◌, ◌≤◌, ◌≡◌, List, [], ◌∷◌, ◌++◌, cond, eqb}
-use Rattle.ebpf.specs.Insn.{jump_always}
-use Rattle.ebpf.specs.declared.insn.Insn.{Insn}
-use Rattle.patches.specs.declared.Patches.{Patches}
-use Rattle.patches.specs.declared.Patched.{Patched}
-use Rattle.patches.specs.declared.Patched.TheVariants.{Done, TooFar}
+use Rattle.std.specs.Prelude.{ℕ, suc, ◌+◌, ◌<◌, ◌≤◌, ◌≡◌, List, [], ◌∷◌, ◌++◌, cond, eqb}
+use Rattle.std.specs.Prelude.{Result, Ok, Err}
 use Rattle.patches.specs.declared.Closed.{Closed}
-use Rattle.patches.specs.declared.Closed.TheVariants.{Up, Stay, Far}
-use Rattle.patches.specs.declared.Finished.{Finished}
-use Rattle.patches.specs.declared.Finished.TheVariants.{Wait, Whole, Refused}
-use Rattle.patches.specs.Chain.{reach, resolved}
-use Rattle.patches.specs.Code.{put_insn}
+use Rattle.patches.specs.declared.Closed.TheVariants.{Up, Stay}
+use Rattle.refusals.specs.declared.Refusal.{Refusal}
+use Rattle.refusals.specs.Refusal.{told}
+use Rattle.refusals.specs.Refusal.Answer.{Refused}
+use Rattle.patches.specs.declared.TooFar.{TooFar}
+use Rattle.patches.specs.Chain.{Patched, too_far, reach, resolved}
+use Rattle.patches.specs.Operators.{ja}
+use Rattle.patches.specs.Code.{Emission, put_insn}
 use Rattle.patches.specs.Rel.{AND_RIGHT, OR_RIGHT, AND_DONE, OR_DONE, Frame, Rel, owed, due}
 use Rattle.patches.specs.Rel.Frame.{frame}
-
--- The jump that Or and Not write, its distance open.
-abbrev pub ja : Insn
-ja = jump_always 0
 
 -- A jump is too far; or the operator is done (bytes, next place, successes, failures); or it waits for its other operand (bytes, next place, what it waits as, the places that it keeps).
 pub data Step : Type 0 where
@@ -26,8 +21,8 @@ pub data Step : Type 0 where
 
 -- The step, if all jumps reach.
 abbrev pub near : Patched → Step → Step
-near TooFar s = far
-near Done s = s
+near (Err _) s = far
+near (Ok _) s = s
 
 -- One operator that waits as op and keeps ps, its operand done up to place pos, with successes sp and failures fp. In the Rust's words:
 --   AndDone: the failures of both; OrDone: the successes of both; AndRight: "left falls through to right on success";
@@ -59,53 +54,51 @@ finish_ops [] pos out sp fp = whole out pos sp fp
 finish_ops (frame op lo ps ∷ fs) pos out sp fp =
     on_step (close_op op ps pos out sp fp) (λ out' pos' sp' fp'. finish_ops fs pos' out' sp' fp') (λ out' pos' op' ps'. wait out' pos' (frame op' lo ps' ∷ fs))
 
--- The answer r and the numbers stand for an operator that is done.
-pub record Ups (l n lo : ℕ) (fs : List Frame) (pos : ℕ) (sp fp : List ℕ) (r : Closed) (work : List ℕ) : Type 0 where
-  pub patches : Patches
-  pub is : r ≡ Up patches
-  pub at : patches.pos ≡ pos
-  pub rel : Rel l work n patches fs sp fp lo
+-- The answer r, and the numbers and patches after, stand for an operator that is done.
+pub record Ups (l n lo : ℕ) (fs : List Frame) (pos : ℕ) (sp fp : List ℕ) (r : Result Closed TooFar) (e : Emission) : Type 0 where
+  pub is : r ≡ Ok Up
+  pub at : e.patches.pos ≡ pos
+  pub rel : Rel l e.work n e.patches fs sp fp lo
 
 -- They stand for an operator that waits for its other operand.
-pub record Stays (l n : ℕ) (fs : List Frame) (pos : ℕ) (r : Closed) (work : List ℕ) : Type 0 where
-  pub patches : Patches
-  pub is : r ≡ Stay patches
-  pub at : patches.pos ≡ pos
-  pub rel : Rel l work n patches fs [] [] pos
+pub record Stays (l n : ℕ) (fs : List Frame) (pos : ℕ) (r : Result Closed TooFar) (e : Emission) : Type 0 where
+  pub is : r ≡ Ok Stay
+  pub at : e.patches.pos ≡ pos
+  pub rel : Rel l e.work n e.patches fs [] [] pos
 
--- The answer, bytes and numbers are as the step says.
-abbrev pub StepOk : ℕ → ℕ → ℕ → List Frame → Step → Closed → List ℕ → List ℕ → Type 0
-StepOk l n lo fs far r out work = r ≡ Far
-StepOk l n lo fs (up out' pos sp fp) r out work = (out ≡ out') × Ups l n lo fs pos sp fp r work
-StepOk l n lo fs (stay out' pos op ps) r out work = (out ≡ out') × Stays l (suc n) (frame op lo ps ∷ fs) pos r work
+-- The answer, and what is written then, are as the step says.
+abbrev pub StepOk : ℕ → ℕ → ℕ → List Frame → Step → Result Closed TooFar → Emission → Type 0
+StepOk l n lo fs far r e = r ≡ Err too_far
+StepOk l n lo fs (up out pos sp fp) r e = (e.out ≡ out) × Ups l n lo fs pos sp fp r e
+StepOk l n lo fs (stay out pos op ps) r e = (e.out ≡ out) × Stays l (suc n) (frame op lo ps ∷ fs) pos r e
 
 -- In every reading of the numbers at the start.
-abbrev pub CloseOk : ℕ → ℕ → List ℕ → List ℕ → ℕ → Patches → Closed → List ℕ → List ℕ → Type 0
-CloseOk l n out work op st r out' work' =
-    (lo lo' : ℕ) (ps : List ℕ) (fs : List Frame) (sp fp : List ℕ) → Rel l work (suc n) st (frame op lo' ps ∷ fs) sp fp lo → st.pos + due op ≤ l
-    → StepOk l n lo' fs (close_op op ps st.pos out sp fp) r out' work'
+abbrev pub CloseOk : ℕ → ℕ → ℕ → Emission → Result Closed TooFar → Emission → Type 0
+CloseOk l n op e r e' =
+    (lo lo' : ℕ) (ps : List ℕ) (fs : List Frame) (sp fp : List ℕ) → Rel l e.work (suc n) e.patches (frame op lo' ps ∷ fs) sp fp lo → e.patches.pos + due op ≤ l
+    → StepOk l n lo' fs (close_op op ps e.patches.pos e.out sp fp) r e'
 
--- The same for all operators that the operand ends.
-pub record Waits (l : ℕ) (fs : List Frame) (pos : ℕ) (r : Finished) (work : List ℕ) : Type 0 where
+-- The same for all operators that the operand ends: n of them wait still,
+pub record Waits (l : ℕ) (fs : List Frame) (pos : ℕ) (r : Result ℕ Refusal) (e : Emission) : Type 0 where
   pub n : ℕ
-  pub patches : Patches
-  pub is : r ≡ Wait n patches
-  pub at : patches.pos ≡ pos
-  pub rel : Rel l work n patches fs [] [] pos
+  pub some : 0 < n
+  pub is : r ≡ Ok n
+  pub at : e.patches.pos ≡ pos
+  pub rel : Rel l e.work n e.patches fs [] [] pos
 
-pub record Wholes (l : ℕ) (sp fp : List ℕ) (pos : ℕ) (r : Finished) (work : List ℕ) : Type 0 where
-  pub patches : Patches
+-- or none is left.
+pub record Wholes (l : ℕ) (sp fp : List ℕ) (pos : ℕ) (r : Result ℕ Refusal) (e : Emission) : Type 0 where
   pub lo : ℕ
-  pub is : r ≡ Whole patches
-  pub at : patches.pos ≡ pos
-  pub rel : Rel l work 0 patches [] sp fp lo
+  pub is : r ≡ Ok 0
+  pub at : e.patches.pos ≡ pos
+  pub rel : Rel l e.work 0 e.patches [] sp fp lo
 
-abbrev pub EndingOk : ℕ → Ending → Finished → List ℕ → List ℕ → Type 0
-EndingOk l (refuse code place) r out work = r ≡ Refused code place
-EndingOk l (wait out' pos fs) r out work = (out ≡ out') × Waits l fs pos r work
-EndingOk l (whole out' pos sp fp) r out work = (out ≡ out') × Wholes l sp fp pos r work
+abbrev pub EndingOk : ℕ → Ending → Result ℕ Refusal → Emission → Type 0
+EndingOk l (refuse number place) r e = told r ≡ Refused number place
+EndingOk l (wait out pos fs) r e = (e.out ≡ out) × Waits l fs pos r e
+EndingOk l (whole out pos sp fp) r e = (e.out ≡ out) × Wholes l sp fp pos r e
 
-abbrev pub FinishOk : ℕ → List ℕ → List ℕ → ℕ → Patches → Finished → List ℕ → List ℕ → Type 0
-FinishOk l out work n st r out' work' =
-    (fs : List Frame) (sp fp : List ℕ) (lo : ℕ) → Rel l work n st fs sp fp lo → st.pos + owed fs ≤ l
-    → EndingOk l (finish_ops fs st.pos out sp fp) r out' work'
+abbrev pub FinishOk : ℕ → ℕ → Emission → Result ℕ Refusal → Emission → Type 0
+FinishOk l n e r e' =
+    (fs : List Frame) (sp fp : List ℕ) (lo : ℕ) → Rel l e.work n e.patches fs sp fp lo → e.patches.pos + owed fs ≤ l
+    → EndingOk l (finish_ops fs e.patches.pos e.out sp fp) r e'

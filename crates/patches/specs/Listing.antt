@@ -4,11 +4,11 @@ use Rattle.ebpf.specs.declared.insn.Insn.{Insn}
 use Rattle.program.specs.Program.{code_of}
 use Rattle.tree.specs.Tree.{Tree}
 use Rattle.tree.specs.Tree.Tree.{leaf, and, or, inv}
-use Rattle.patches.specs.declared.Patched.{Patched}
-use Rattle.patches.specs.declared.Patched.TheVariants.{Done, TooFar}
+use Rattle.patches.specs.Chain.{Patched}
+use Rattle.std.specs.Prelude.{Ok, Err}
 use Rattle.patches.specs.Chain.{reach}
 use Rattle.patches.specs.Code.{Slot, insn, successes, failures}
-use Rattle.patches.specs.Finish.{ja}
+use Rattle.patches.specs.Operators.{ja}
 use Rattle.patches.specs.Machine.{Tpl}
 use Rattle.patches.specs.Machine.Tpl.{code, refused}
 use Rattle.patches.specs.Whole.{prologue, epilogue}
@@ -36,8 +36,8 @@ pub data ResL : Type 0 where
   ok_l : List Insn → ℕ → List ℕ → List ℕ → ResL
 
 abbrev pub when_l : Patched → ResL → ResL
-when_l TooFar e = fail_l 10 0
-when_l Done e = e
+when_l (Err _) e = fail_l 10 0
+when_l (Ok _) e = e
 
 abbrev pub on_leaf_l : Tpl → ℕ → List Insn → ResL
 on_leaf_l (code xs) k is = ok_l (listed xs is) (suc k) (successes (length is) xs []) (failures (length is) xs [])
@@ -79,9 +79,9 @@ pub data CompL : Type 0 where
   made_l : List Insn → CompL
 
 abbrev pub end_l : Patched → Patched → List Insn → CompL
-end_l TooFar b is = stopped_l 10 0
-end_l Done TooFar is = stopped_l 10 0
-end_l Done Done is = made_l is
+end_l (Err _) b is = stopped_l 10 0
+end_l (Ok _) (Err _) is = stopped_l 10 0
+end_l (Ok _) (Ok _) is = made_l is
 
 -- The exits are added; successes go to the first, failures to the second.
 unfoldable pub ended_l : List Insn → List ℕ → List ℕ → CompL

@@ -1,8 +1,7 @@
 -- The walk over the tokens with its pending operators, over any templates of the primitives.
-use Rattle.std.specs.Prelude.{ℕ, zero, suc, ◌+◌, ◌≤◌, List, [], ◌∷◌, cond, eqb, length}
-use Rattle.patches.specs.Code.{Slot, outs, successes, failures}
-use Rattle.patches.specs.declared.Patches.{Patches}
-use Rattle.patches.specs.declared.Finished.{Finished}
+use Rattle.std.specs.Prelude.{ℕ, Result, zero, suc, ◌+◌, ◌≤◌, List, [], ◌∷◌, cond, eqb, length}
+use Rattle.patches.specs.Code.{Slot, Emission, outs, successes, failures}
+use Rattle.refusals.specs.declared.Refusal.{Refusal}
 use Rattle.patches.specs.Rel.{Frame, Rel, due, owed}
 use Rattle.patches.specs.Rel.Frame.{frame}
 use Rattle.patches.specs.Finish.{Ending, EndingOk, finish_ops}
@@ -27,11 +26,11 @@ on_tpl (refused c) k more = refuse c k
 unfoldable pub emit_leaf : Tpl → ℕ → List Frame → ℕ → List ℕ → Ending
 emit_leaf t k fs pos out = on_tpl t k (λ xs. finish_ops fs (pos + length xs) (outs xs pos out) (successes pos xs []) (failures pos xs []))
 
--- The answer, bytes and numbers are as `emit_leaf` says, in every reading of the numbers at the start.
-abbrev pub LeafOk : ℕ → ℕ → ℕ → Tpl → List ℕ → List ℕ → Patches → Finished → List ℕ → List ℕ → Type 0
-LeafOk l n k t out work st r out' work' =
-    (fs : List Frame) → Rel l work n st fs [] [] st.pos → st.pos + size_of t + owed fs ≤ l
-    → EndingOk l (emit_leaf t k fs st.pos out) r out' work'
+-- The answer, and what is written then, are as `emit_leaf` says, in every reading of the numbers at the start.
+abbrev pub LeafOk : ℕ → ℕ → ℕ → Tpl → Emission → Result ℕ Refusal → Emission → Type 0
+LeafOk l n k t e r e' =
+    (fs : List Frame) → Rel l e.work n e.patches fs [] [] e.patches.pos → e.patches.pos + size_of t + owed fs ≤ l
+    → EndingOk l (emit_leaf t k fs e.patches.pos e.out) r e'
 
 -- Further only where operators wait.
 abbrev pub go_on : Ending → (List ℕ → ℕ → List Frame → Ending) → Ending

@@ -1,5 +1,6 @@
 -- What stays as it was.
-use Rattle.std.specs.Prelude.{ℕ, zero, suc, ◌≤◌, ◌≡◌, List, get_or, set}
+use Rattle.std.specs.Prelude.{ℕ, zero, suc, ◌≤◌, ◌≡◌, List, get_or, set, length}
+use Rattle.patches.specs.Code.{Emission}
 
 -- From m on the second list is as the first: "Nothing else changes."
 abbrev pub SameFrom : ℕ → List ℕ → List ℕ → Type 0
@@ -9,3 +10,9 @@ SameFrom m a b = (p : ℕ) → m ≤ p → get_or b p 0 ≡ get_or a p 0
 unfoldable pub zeroed : ℕ → List ℕ → List ℕ
 zeroed zero a = a
 zeroed (suc n) a = set (zeroed n a) n 0
+
+-- Mode, link and the lent buffers are as before, and these as long as before.
+pub record Kept (e e' : Emission) : Type 0 where
+  pub setting : e'.setting ≡ e.setting
+  pub out_len : length e'.out ≡ length e.out
+  pub work_len : length e'.work ≡ length e.work

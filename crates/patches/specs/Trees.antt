@@ -2,11 +2,11 @@
 use Rattle.std.specs.Prelude.{ℕ, suc, ◌+◌, List, [], ◌∷◌, ◌++◌, length}
 use Rattle.tree.specs.Tree.{Tree}
 use Rattle.tree.specs.Tree.Tree.{leaf, and, or, inv}
-use Rattle.patches.specs.declared.Patched.{Patched}
-use Rattle.patches.specs.declared.Patched.TheVariants.{Done, TooFar}
+use Rattle.patches.specs.Chain.{Patched}
+use Rattle.std.specs.Prelude.{Ok, Err}
 use Rattle.patches.specs.Chain.{reach, resolved}
 use Rattle.patches.specs.Code.{outs, successes, failures, put_insn}
-use Rattle.patches.specs.Finish.{ja}
+use Rattle.patches.specs.Operators.{ja}
 use Rattle.patches.specs.Machine.{Tpl}
 use Rattle.patches.specs.Machine.Tpl.{code, refused}
 use Rattle.patches.specs.Whole.{Comp, ended, prologue}
@@ -19,8 +19,8 @@ pub data Res : Type 0 where
 
 -- Further only if all jumps reach.
 abbrev pub when : Patched → Res → Res
-when TooFar e = fail 10 0
-when Done e = e
+when (Err _) e = fail 10 0
+when (Ok _) e = e
 
 -- "Of 10 to 19 the one the Rust meets first is given", with the number of the primitive.
 abbrev pub on_leaf : Tpl → ℕ → ℕ → List ℕ → Res

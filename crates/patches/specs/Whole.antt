@@ -2,8 +2,8 @@
 use Rattle.std.specs.Prelude.{ℕ, ◌+◌, List, [], ◌∷◌}
 use Rattle.ebpf.specs.Opcode.{MOV, WORD}
 use Rattle.ebpf.specs.Insn.{ldx, alu64_imm, exit_insn}
-use Rattle.patches.specs.declared.Patched.{Patched}
-use Rattle.patches.specs.declared.Patched.TheVariants.{Done, TooFar}
+use Rattle.patches.specs.Chain.{Patched}
+use Rattle.std.specs.Prelude.{Ok, Err}
 use Rattle.patches.specs.Chain.{reach, resolved}
 use Rattle.patches.specs.Code.{Slot, outs}
 use Rattle.patches.specs.Code.Slot.{fixed}
@@ -26,9 +26,9 @@ pub data Comp : Type 0 where
 
 -- The bytes, if both lists reach.
 abbrev pub end_of : Patched → Patched → List ℕ → Comp
-end_of TooFar b out = stopped 10 0
-end_of Done TooFar out = stopped 10 0
-end_of Done Done out = made out
+end_of (Err _) b out = stopped 10 0
+end_of (Ok _) (Err _) out = stopped 10 0
+end_of (Ok _) (Ok _) out = made out
 
 -- The exits are written; successes go to the first, failures to the second.
 unfoldable pub ended : List ℕ → ℕ → List ℕ → List ℕ → Comp

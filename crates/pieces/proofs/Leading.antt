@@ -2,14 +2,15 @@
 use Rattle.std.proofs.Common.{◌≡◌, ℕ, suc, ◌+◌, ◌-◌, ◌<◌, false, eqb, List, [], ◌∷◌, ◌++◌, length, sym, refl, ap, ◌∙◌, arith, length-append, ne_eqb}
 use Rattle.ebpf.specs.Insn.{jump_always}
 use Rattle.ebpf.specs.declared.insn.Insn.{Insn}
+use Rattle.patches.specs.declared.Codegen.{Codegen}
 use Rattle.patches.specs.declared.Patches.{Patches}
-use Rattle.patches.specs.Code.{Slot, Emission, Room, with_off, em, push1, block}
+use Rattle.patches.specs.Code.{Slot, Emission, Room, with_off, emission, push1, block}
 use Rattle.patches.specs.Code.Slot.{fixed, success, failure}
 use Rattle.patches.proofs.Blocks.{pos_of}
 use Rattle.filter.specs.declared.ast.AccessSize.{AccessSize}
 use Rattle.filter.specs.declared.ast.AccessSize.TheVariants.{Byte, Half, Word}
 use Rattle.pieces.specs.Fragments.{Fits, Leads, past, settled, led, lead, one_of, load}
-use Rattle.pieces.proofs.Pieces.{then, step}
+use Rattle.pieces.proofs.Pieces.{then, step, mode_of}
 
 -- Filling jumps changes no length.
 pub settled_length : (k : ℕ) (xs : List Slot) → length (settled k xs) ≡ length xs
@@ -80,46 +81,54 @@ opened p xs e e1 h = h ∙ ap (λ (ys : List Slot). block ys e) (lead_none p xs)
 pub first_to : (end : ℕ) (xs ys : List Slot) (st : Patches) → Leads end (xs ++ ys) st → Leads end xs st
 first_to end xs ys st f = record { room = omega (arith, simp length-append at f.room); near = f.near }
 
-pub second_to : (end : ℕ) (xs ys : List Slot) (o w : List ℕ) (st : Patches) (o1 w1 : List ℕ) (st1 : Patches)
-    → Leads end (xs ++ ys) st → em o1 w1 st1 ≡ block (lead end st.pos xs) (em o w st) → Leads end ys st1
-second_to end xs ys o w st o1 w1 st1 f e =
-    let at : st1.pos ≡ st.pos + length xs = pos_to end st.pos xs (em o w st) (em o1 w1 st1) e in
+pub second_to : (end : ℕ) (xs ys : List Slot) (c c1 : Codegen)
+    → Leads end (xs ++ ys) c.patches → emission c1 ≡ block (lead end c.patches.pos xs) (emission c) → Leads end ys c1.patches
+unfolding emission
+second_to end xs ys c c1 f e =
+    let at : c1.patches.pos ≡ c.patches.pos + length xs = pos_to end c.patches.pos xs (emission c) (emission c1) e in
     record { room = omega (arith, simp length-append at f.room, at); near = omega (arith, f.near, at) }
 
 -- The same for one instruction and what follows it.
 pub head_to : (end : ℕ) (x y : Slot) (ys : List Slot) (st : Patches) → Leads end (x ∷ ys) st → Leads end (y ∷ []) st
 head_to end x y ys st f = record { room = omega (arith, f.room); near = f.near }
 
-pub tail_to : (end : ℕ) (x : Slot) (ys : List Slot) (o w : List ℕ) (st : Patches) (o1 w1 : List ℕ) (st1 : Patches)
-    → Leads end (x ∷ ys) st → em o1 w1 st1 ≡ push1 (led end st.pos x) (em o w st) → Leads end ys st1
-unfolding block
-tail_to end x ys o w st o1 w1 st1 f e =
-    let at : st1.pos ≡ st.pos + 1 = pos_of (led end st.pos x ∷ []) (em o w st) (em o1 w1 st1) e in
+pub room_to : (end : ℕ) (x : Slot) (ys : List Slot) (st : Patches) → Leads end (x ∷ ys) st → Room 1 st
+room_to end x ys st f = omega (arith, f.room)
+
+pub mode_to : (end p : ℕ) (xs : List Slot) (c c1 : Codegen) → emission c1 ≡ block (lead end p xs) (emission c) → c1.mode ≡ c.mode
+mode_to end p xs c c1 e = mode_of (lead end p xs) c c1 e
+
+pub tail_to : (end : ℕ) (x : Slot) (ys : List Slot) (c c1 : Codegen)
+    → Leads end (x ∷ ys) c.patches → emission c1 ≡ push1 (led end c.patches.pos x) (emission c) → Leads end ys c1.patches
+unfolding emission block
+tail_to end x ys c c1 f e =
+    let at : c1.patches.pos ≡ c.patches.pos + 1 = pos_of (led end c.patches.pos x ∷ []) (emission c) (emission c1) e in
     record { room = omega (arith, f.room, at); near = omega (arith, f.near, at) }
 
 -- What two pieces come to, and one instruction and what follows it.
-pub then_to : (end : ℕ) (xs ys : List Slot) (o w : List ℕ) (st : Patches) (o1 w1 : List ℕ) (st1 : Patches) (e2 : Emission)
-    → em o1 w1 st1 ≡ block (lead end st.pos xs) (em o w st) → e2 ≡ block (lead end st1.pos ys) (em o1 w1 st1)
-    → e2 ≡ block (lead end st.pos (xs ++ ys)) (em o w st)
-then_to end xs ys o w st o1 w1 st1 e2 h k =
-    let at : st1.pos ≡ st.pos + length xs = pos_to end st.pos xs (em o w st) (em o1 w1 st1) h in
-    then (lead end st.pos xs) (lead end (st.pos + length xs) ys) (em o w st) (em o1 w1 st1) e2 h (k ∙ ap (λ (q : ℕ). block (lead end q ys) (em o1 w1 st1)) at)
-    ∙ ap (λ (zs : List Slot). block zs (em o w st)) (sym (lead_append end st.pos xs ys))
+pub then_to : (end : ℕ) (xs ys : List Slot) (c c1 : Codegen) (e2 : Emission)
+    → emission c1 ≡ block (lead end c.patches.pos xs) (emission c) → e2 ≡ block (lead end c1.patches.pos ys) (emission c1)
+    → e2 ≡ block (lead end c.patches.pos (xs ++ ys)) (emission c)
+unfolding emission
+then_to end xs ys c c1 e2 h k =
+    let at : c1.patches.pos ≡ c.patches.pos + length xs = pos_to end c.patches.pos xs (emission c) (emission c1) h in
+    then (lead end c.patches.pos xs) (lead end (c.patches.pos + length xs) ys) (emission c) (emission c1) e2 h (k ∙ ap (λ (q : ℕ). block (lead end q ys) (emission c1)) at)
+    ∙ ap (λ (zs : List Slot). block zs (emission c)) (sym (lead_append end c.patches.pos xs ys))
 
-pub step_to : (end : ℕ) (x : Slot) (ys : List Slot) (o w : List ℕ) (st : Patches) (o1 w1 : List ℕ) (st1 : Patches) (e2 : Emission)
-    → em o1 w1 st1 ≡ push1 (led end st.pos x) (em o w st) → e2 ≡ block (lead end st1.pos ys) (em o1 w1 st1)
-    → e2 ≡ block (lead end st.pos (x ∷ ys)) (em o w st)
-unfolding block lead
-step_to end x ys o w st o1 w1 st1 e2 h k =
-    let at : st1.pos ≡ suc st.pos = pos_of (led end st.pos x ∷ []) (em o w st) (em o1 w1 st1) h ∙ omega arith in
-    step (led end st.pos x) (lead end (suc st.pos) ys) (em o w st) (em o1 w1 st1) e2 h (k ∙ ap (λ (q : ℕ). block (lead end q ys) (em o1 w1 st1)) at)
+pub step_to : (end : ℕ) (x : Slot) (ys : List Slot) (c c1 : Codegen) (e2 : Emission)
+    → emission c1 ≡ push1 (led end c.patches.pos x) (emission c) → e2 ≡ block (lead end c1.patches.pos ys) (emission c1)
+    → e2 ≡ block (lead end c.patches.pos (x ∷ ys)) (emission c)
+unfolding emission block lead
+step_to end x ys c c1 e2 h k =
+    let at : c1.patches.pos ≡ suc c.patches.pos = pos_of (led end c.patches.pos x ∷ []) (emission c) (emission c1) h ∙ omega arith in
+    step (led end c.patches.pos x) (lead end (suc c.patches.pos) ys) (emission c) (emission c1) e2 h (k ∙ ap (λ (q : ℕ). block (lead end q ys) (emission c1)) at)
 
 pub one_to : (end p : ℕ) (x : Slot) (e e1 : Emission) → e1 ≡ push1 (led end p x) e → e1 ≡ block (lead end p (x ∷ [])) e
 unfolding block lead
 one_to end p x e e1 h = h
 
 -- A load has no failure.
-load_to : (end p : ℕ) (size : AccessSize) (base off : ℕ) → lead end p (load size base off) ≡ load size base off
+pub load_to : (end p : ℕ) (size : AccessSize) (base off : ℕ) → lead end p (load size base off) ≡ load size base off
 unfolding lead led load
 load_to end p Byte base off = refl
 load_to end p Half base off = refl
@@ -134,26 +143,26 @@ module _ (xs ys : List Slot) where
   unfolding one_of
   either_first end st e n f = record { room = omega (arith, simp (length-append, settled_length 1 xs) at f.room); near = omega (arith, e, n) }
 
-  pub either_over : (end : ℕ) (o w : List ℕ) (st : Patches) (o1 w1 : List ℕ) (st1 : Patches) → Fits (one_of xs ys) st
-      → em o1 w1 st1 ≡ block (lead end st.pos xs) (em o w st) → Room 1 st1
-  unfolding one_of
-  either_over end o w st o1 w1 st1 f h =
-      omega (arith, simp (length-append, settled_length 1 xs) at f.room, pos_to end st.pos xs (em o w st) (em o1 w1 st1) h)
+  pub either_over : (end : ℕ) (c c1 : Codegen) → Fits (one_of xs ys) c.patches
+      → emission c1 ≡ block (lead end c.patches.pos xs) (emission c) → Room 1 c1.patches
+  unfolding emission one_of
+  either_over end c c1 f h =
+      omega (arith, simp (length-append, settled_length 1 xs) at f.room, pos_to end c.patches.pos xs (emission c) (emission c1) h)
 
-  pub either_second : (end : ℕ) (o w : List ℕ) (st : Patches) (o1 w1 : List ℕ) (st1 : Patches) (o2 w2 : List ℕ) (st2 : Patches) → Fits (one_of xs ys) st
-      → em o1 w1 st1 ≡ block (lead end st.pos xs) (em o w st) → em o2 w2 st2 ≡ push1 (success (jump_always 0)) (em o1 w1 st1) → Leads 0 ys st2
-  unfolding one_of block
-  either_second end o w st o1 w1 st1 o2 w2 st2 f h k =
-      let at : st1.pos ≡ st.pos + length xs = pos_to end st.pos xs (em o w st) (em o1 w1 st1) h in
-      let next : st2.pos ≡ st1.pos + 1 = pos_of (success (jump_always 0) ∷ []) (em o1 w1 st1) (em o2 w2 st2) k in
+  pub either_second : (end : ℕ) (c c1 c2 : Codegen) → Fits (one_of xs ys) c.patches
+      → emission c1 ≡ block (lead end c.patches.pos xs) (emission c) → emission c2 ≡ push1 (success (jump_always 0)) (emission c1) → Leads 0 ys c2.patches
+  unfolding emission one_of block
+  either_second end c c1 c2 f h k =
+      let at : c1.patches.pos ≡ c.patches.pos + length xs = pos_to end c.patches.pos xs (emission c) (emission c1) h in
+      let next : c2.patches.pos ≡ c1.patches.pos + 1 = pos_of (success (jump_always 0) ∷ []) (emission c1) (emission c2) k in
       record { room = omega (arith, simp (length-append, settled_length 1 xs) at f.room, at, next); near = omega arith }
 
   -- The first check, its failures leading behind the JA, the JA and the second check.
-  pub either : (end : ℕ) (o w : List ℕ) (st : Patches) (o1 w1 : List ℕ) (st1 : Patches) (e2 : Emission) (p : ℕ) (e3 : Emission) → end ≡ st.pos + length xs + 1
-      → em o1 w1 st1 ≡ block (lead end st.pos xs) (em o w st) → e2 ≡ push1 (success (jump_always 0)) (em o1 w1 st1) → e3 ≡ block (lead 0 p ys) e2
-      → e3 ≡ block (one_of xs ys) (em o w st)
-  unfolding one_of
-  either end o w st o1 w1 st1 e2 p e3 e h k l =
-      then (settled 1 xs) (success (jump_always 0) ∷ ys) (em o w st) (em o1 w1 st1) e3
-      (h ∙ ap (λ (zs : List Slot). block zs (em o w st)) (lead_settled st.pos 1 xs end (omega arith) e))
-      (step (success (jump_always 0)) ys (em o1 w1 st1) e2 e3 k (opened p ys e2 e3 l))
+  pub either : (end : ℕ) (c c1 : Codegen) (e2 : Emission) (p : ℕ) (e3 : Emission) → end ≡ c.patches.pos + length xs + 1
+      → emission c1 ≡ block (lead end c.patches.pos xs) (emission c) → e2 ≡ push1 (success (jump_always 0)) (emission c1) → e3 ≡ block (lead 0 p ys) e2
+      → e3 ≡ block (one_of xs ys) (emission c)
+  unfolding emission one_of
+  either end c c1 e2 p e3 e h k l =
+      then (settled 1 xs) (success (jump_always 0) ∷ ys) (emission c) (emission c1) e3
+      (h ∙ ap (λ (zs : List Slot). block zs (emission c)) (lead_settled c.patches.pos 1 xs end (omega arith) e))
+      (step (success (jump_always 0)) ys (emission c1) e2 e3 k (opened p ys e2 e3 l))

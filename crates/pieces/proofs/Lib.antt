@@ -1,3 +1,4 @@
 pub mod Pieces
 pub mod Leading
 pub mod Unique
+pub mod Laws

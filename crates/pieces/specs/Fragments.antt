@@ -6,7 +6,7 @@ use Rattle.ebpf.specs.Insn.{alu64_reg, alu64_imm, alu32_imm, to_be, ldx, jump_im
 use Rattle.patches.specs.Code.{Slot, with_off}
 use Rattle.patches.specs.declared.Patches.{Patches}
 use Rattle.patches.specs.Code.Slot.{fixed, success, failure}
-use Rattle.filter.specs.Ast.{ether_proto_offset, net_offset}
+use Rattle.filter.specs.Ast.{ether_proto_offset, net_offset, bytes_of}
 use Rattle.filter.specs.Record.{step_at}
 use Rattle.filter.specs.declared.ast.LinkType.{LinkType}
 use Rattle.filter.specs.declared.ast.Dir.{Dir}
@@ -70,14 +70,9 @@ load Byte base off = fixed (ldx BYTE 4 base (off % 2 ^ 16)) ∷ []
 load Half base off = fixed (ldx HALF 4 base (off % 2 ^ 16)) ∷ fixed (to_be 16 4) ∷ []
 load Word base off = fixed (ldx WORD 4 base (off % 2 ^ 16)) ∷ fixed (to_be 32 4) ∷ []
 
-unfoldable pub size_bytes : AccessSize → ℕ
-size_bytes Byte = 1
-size_bytes Half = 2
-size_bytes Word = 4
-
 -- Where a number of this size at an offset ends, in 32 bits.
 unfoldable pub end_of : AccessSize → ℕ → ℕ
-end_of size offset = (offset + size_bytes size) % 2 ^ 32
+end_of size offset = (offset + bytes_of size) % 2 ^ 32
 
 -- `emit_load_byte`, `emit_load_half`, `emit_load_word`.
 unfoldable pub emit_load : AccessSize → ℕ → List Slot

@@ -1,6 +1,6 @@
 // Comparisons, the steps of a byte access, and the way to the transport header.
 ghost use Rattle.std.specs.Prelude.{◌≡◌, ◌+◌, ◌*◌};
-ghost use Rattle.patches.specs.Code.{em, block};
+ghost use Rattle.patches.specs.Code.{emission, block};
 ghost use Rattle.filter.specs.Record.{step_at};
 ghost use Rattle.ebpf.specs.Insn.{alu32_imm};
 ghost use Rattle.pieces.specs.Fragments.{Fits, alu32_of, emit_steps, transport, emit_cmp};
@@ -10,30 +10,24 @@ use crate::load::{jeq, jge, jgt, jle, jlt, jne, jset};
 use ebpf::insn::{Insn, R2, R4, R6};
 use filter::ast::{AccessSize, ArithOp, CmpOp};
 use filter::record::step_at;
-use patches::{Patches, push, push_failure, push_jump};
+use patches::Codegen;
 
 // `emit_cmp`: a jump where the comparison fails; BitAnd jumps over one.
-pub fn emit_cmp(
-    out: &mut [u8],
-    work: &mut [u32],
-    st: Patches,
-    mode: u8,
-    op: CmpOp,
-    value: u32,
-) -> Patches
-    requires { Fits (emit_cmp mode op value) st }
-    ensures { em out.new work.new result ≡ block (emit_cmp mode op value) (em out.old work.old st) }
+pub fn emit_cmp(code: &mut Codegen, op: CmpOp, value: u32)
+    requires { Fits (emit_cmp code.old.mode op value) code.old.patches }
+    ensures { emission code.new ≡ block (emit_cmp code.old.mode op value) (emission code.old) }
 {
+    let mode = code.mode;
     match op {
-        CmpOp::Eq => push_failure(out, work, st, jne(mode, value)),
-        CmpOp::Ne => push_failure(out, work, st, jeq(mode, value)),
-        CmpOp::Gt => push_failure(out, work, st, jle(mode, value)),
-        CmpOp::Ge => push_failure(out, work, st, jlt(mode, value)),
-        CmpOp::Lt => push_failure(out, work, st, jge(mode, value)),
-        CmpOp::Le => push_failure(out, work, st, jgt(mode, value)),
+        CmpOp::Eq => code.push_failure(jne(mode, value)),
+        CmpOp::Ne => code.push_failure(jeq(mode, value)),
+        CmpOp::Gt => code.push_failure(jle(mode, value)),
+        CmpOp::Ge => code.push_failure(jlt(mode, value)),
+        CmpOp::Lt => code.push_failure(jge(mode, value)),
+        CmpOp::Le => code.push_failure(jgt(mode, value)),
         CmpOp::BitAnd => {
-            let a = push_jump(out, work, st, jset(mode, value), 1);
-            push_failure(out, work, a, Insn::ja(0))
+            code.push_jump(jset(mode, value), 1);
+            code.push_failure(Insn::ja(0));
         }
     }
 }
@@ -56,45 +50,34 @@ fn ebpf_alu32(op: ArithOp, imm: u32) -> Insn
     }
 }
 
-// R6 = R2 + net + IHL * 4.
-pub fn emit_transport(out: &mut [u8], work: &mut [u32], st: Patches, net: u32) -> Patches
-    requires { Fits (transport net) st }
-    ensures { em out.new work.new result ≡ block (transport net) (em out.old work.old st) }
+// R6 at the transport header: R2, the network header's offset, and IPv4's header length.
+pub fn emit_transport(code: &mut Codegen, net: u32)
+    requires { Fits (transport net) code.old.patches }
+    ensures { emission code.new ≡ block (transport net) (emission code.old) }
 {
-    let a = emit_load(out, work, st, AccessSize::Byte, net);
-    let b = push(out, work, a, Insn::and32_imm(R4, 0x0f));
-    let c = push(out, work, b, Insn::lsh32_imm(R4, 2));
-    let d = push(out, work, c, Insn::mov64_reg(R6, R2));
-    let e = push(out, work, d, Insn::add64_imm(R6, net));
-    push(out, work, e, Insn::add64_reg(R6, R4))
+    emit_load(code, AccessSize::Byte, net);
+    code.push(Insn::and32_imm(R4, 0x0f));
+    code.push(Insn::lsh32_imm(R4, 2));
+    code.push(Insn::mov64_reg(R6, R2));
+    code.push(Insn::add64_imm(R6, net));
+    code.push(Insn::add64_reg(R6, R4));
 }
 
 // The instruction of the step k places after step `from`.
+// `steps` and `from` stay two: the part is all primitives', `from` counts on over them, and a struct would be built anew for each.
 fn step_insn(steps: &[u8], from: u32, k: u16) -> Insn
     ensures { result ≡ alu32_imm (alu32_of (step_at steps.now (5 * (from + k))).op) 4 (step_at steps.now (5 * (from + k))).operand }
 {
     let step = step_at(steps, from, k);
-    let op = step.op;
-    ebpf_alu32(op, step.operand)
+    ebpf_alu32(step.op, step.operand)
 }
 
 // n steps of a byte access, from step `from` on.
-pub fn emit_steps(
-    out: &mut [u8],
-    work: &mut [u32],
-    st: Patches,
-    steps: &[u8],
-    n: u16,
-    from: u32,
-) -> Patches
-    requires { Fits (emit_steps steps.now n from) st }
-    ensures { em out.new work.new result ≡ block (emit_steps steps.now n from) (em out.old work.old st) }
+pub fn emit_steps(code: &mut Codegen, steps: &[u8], n: u16, from: u32)
+    requires { Fits (emit_steps steps.now n from) code.old.patches }
+    ensures { emission code.new ≡ block (emit_steps steps.now n from) (emission code.old) }
 {
-    let mut x = st;
-    let mut i = 0;
-    while i < n {
-        x = push(out, work, x, step_insn(steps, from, i));
-        i += 1;
+    for i in 0..n {
+        code.push(step_insn(steps, from, i));
     }
-    x
 }

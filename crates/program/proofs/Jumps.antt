@@ -9,6 +9,7 @@ use Rattle.ebpf.specs.Step.{act_of, context_act, frame_act, load_act, reg64_act,
 use Rattle.ebpf.specs.declared.insn.Insn.{Insn}
 use Rattle.ebpf.specs.declared.regs.Regs.{Regs}
 use Rattle.ebpf.specs.declared.act.Act.{Act}
+use Rattle.ebpf.specs.declared.act.Halt.{Halt}
 use Rattle.ebpf.specs.declared.act.Act.TheVariants.{Writes, Jumps, Falls, Halts}
 
 -- A form that jumps by n, if it jumps.
@@ -78,7 +79,7 @@ data ActBy (n : ℕ) : Act → Type 0 where
   writes : {dst value : ℕ} → ActBy n (Writes dst value)
   jumps : ActBy n (Jumps n)
   falls : ActBy n Falls
-  halts : {stop r0 : ℕ} → ActBy n (Halts stop r0)
+  halts : {halt : Halt} → ActBy n (Halts halt)
 
 act_either : {n : ℕ} {a b : Act} (t : Bool) → ActBy n a → ActBy n b → ActBy n (cond t a b)
 act_either true p q = p

@@ -1,5 +1,6 @@
 -- A run of what is left of a program comes to what the machine's run comes to, where every jump goes forward.
 use Prim.Native.Nat.{ℕ, zero, suc, ◌+◌, ◌-◌, ◌*◌, ◌/◌, ◌^◌, ◌<◌, ◌≤◌}
+use Rattle.std.specs.Prelude.{None}
 use mathlib.Core.Path.{◌≡◌, refl, sym, ap, ◌∙◌}
 use mathlib.Core.Bool.{Bool, true, false, cond}
 use mathlib.Core.List.{List, [], ◌∷◌}
@@ -13,13 +14,12 @@ use Rattle.ebpf.specs.Insn.{exit_insn}
 use Rattle.ebpf.specs.Alu.{sext16}
 use Rattle.ebpf.specs.Form.{form_of}
 use Rattle.ebpf.specs.Regs.{fresh, with_of}
-use Rattle.ebpf.specs.Step.{act_of, act_at, regs_after, place_after, status_of}
+use Rattle.ebpf.specs.Step.{act_of, act_at, regs_after, place_after, halt_of}
 use Rattle.ebpf.specs.Run.{ended_of, go_of, run_of, first_state}
 use Rattle.ebpf.specs.declared.insn.Insn.{Insn}
 use Rattle.ebpf.specs.declared.regs.Regs.{Regs}
 use Rattle.ebpf.specs.declared.act.Act.{Act}
 use Rattle.ebpf.specs.declared.act.Act.TheVariants.{Writes, Jumps, Falls, Halts}
-use Rattle.ebpf.specs.declared.step.Status.TheVariants.{Going}
 use Rattle.ebpf.specs.declared.run.Outcome.{Outcome}
 use Rattle.ebpf.proofs.Runs.{go_next, go_halt, run_goes}
 use Rattle.program.specs.Program.{code_of, Fit, Fits, none, one, counted, onward, execs}
@@ -71,7 +71,7 @@ module _ (frame : List ℕ) (start : ℕ) where
       split (Writes dst value) e ih = rw (does i rest r _ e) (omega (arith, ih 0 (with_of r dst value)))
       split (Jumps off) e ih = rw (does i rest r _ e) (omega (arith, ih off r))
       split Falls e ih = rw (does i rest r _ e) (omega (arith, ih 0 r))
-      split (Halts stop r0) e ih = rw (does i rest r _ e) (omega (arith, one_at_most (eqb stop 0)))
+      split (Halts halt) e ih = rw (does i rest r _ e) (omega (arith, one_at_most (eqb halt.stop 0)))
 
   -- Skipped instructions are as good as not there.
   skipped : (is : List Insn) (k : ℕ) (r : Regs) → execs frame start k is r ≡ execs frame start 0 (drop k is) r
@@ -116,25 +116,25 @@ module _ (frame : List ℕ) (start : ℕ) where
           → go_of (budget - n) (code_of is) frame start (record { regs = r; pc = pc }) n ≡ later n (execs frame start 0 (here ∷ rest) r)
 
       going : (a : Act) (k : ℕ) (s : Regs) → act_of (form_of here) frame start r ≡ a
-          → status_of a ≡ Going → s ≡ regs_after a r → suc pc + k ≡ place_after a pc
+          → halt_of a ≡ None → s ≡ regs_after a r → suc pc + k ≡ place_after a pc
           → onward a r (λ k s. execs frame start k rest s) ≡ counted (execs frame start k rest s) → Stepped
       going a k s e es er ep eo z =
           let further = ap (λ (x : List Insn). execs frame start 0 x s) (drop-drop k (suc pc) is) in
           let q = does here rest r a e ∙ eo ∙ ap counted (skipped rest k s ∙ further) in
           let ea = sym (act_at_lem fs pc r h ∙ e) in
-          sym (go_next (code_of is) frame start r pc n a ea budget s.values s.written (suc pc + k) (omega arith) es er ep)
+          sym (go_next (code_of is) frame start r pc n a ea budget s (suc pc + k) (omega arith) es er ep)
           ∙ ih (suc pc + k) (n + 1) s (omega arith) (omega arith) (rw q at z) ∙ later_counted n _ ∙ ap (later n) (sym q)
 
       stepped : (a : Act) → act_of (form_of here) frame start r ≡ a → Stepped
-      unfolding regs_after place_after status_of sext16 ended_of
+      unfolding regs_after place_after halt_of sext16 ended_of
       stepped (Writes dst value) e = going _ 0 _ e refl refl (omega arith) refl
       stepped (Jumps off) e =
           let near : off < 2 ^ 15 = omega (arith, jumps_by_off frame start r here off e, (fit_at fs pc h).off15) in
           going _ off r e refl refl (rw (lt-ltb off (2 ^ 15) near) (omega arith)) refl
       stepped Falls e = going _ 0 r e refl refl (omega arith) refl
-      stepped (Halts stop r0) e = λ z.
-          sym (go_halt (code_of is) frame start r pc n _ (sym (act_at_lem fs pc r h ∙ e)) budget stop r0 (omega arith) refl)
-          ∙ ended (eqb stop 0) n stop r0 ∙ ap (later n) (sym (does here rest r _ e))
+      stepped (Halts halt) e = λ z.
+          sym (go_halt (code_of is) frame start r pc n _ (sym (act_at_lem fs pc r h ∙ e)) budget halt (omega arith) refl)
+          ∙ ended (eqb halt.stop 0) n halt.stop halt.r0 ∙ ap (later n) (sym (does here rest r _ e))
 
     same : (left pc n : ℕ) (r : Regs) → Same left pc n r
     same zero pc n r b l z = absurd (past_end is pc r (omega arith) z)

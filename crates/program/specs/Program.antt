@@ -35,7 +35,7 @@ abbrev pub onward : Act → Regs → (ℕ → Regs → Outcome) → Outcome
 onward (Writes dst value) r more = counted (more 0 (with_of r dst value))
 onward (Jumps off) r more = counted (more off r)
 onward Falls r more = counted (more 0 r)
-onward (Halts stop r0) r more = ended_of stop r0 0
+onward (Halts halt) r more = ended_of halt.stop halt.r0 0
 
 -- A run of what is left of a program, k instructions of it skipped: jumps only go forward, and past the end is "33 no instruction there".
 unfoldable pub execs : List ℕ → ℕ → ℕ → List Insn → Regs → Outcome

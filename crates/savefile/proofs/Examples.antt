@@ -1,10 +1,10 @@
 -- The definitions, computed: magics and byte orders, and each refusal where document 02 says.
 use Prim.Native.Nat.{ℕ}
 use mathlib.Core.Path.{◌≡◌, refl}
-use mathlib.Core.Bool.{true, false}
 use mathlib.Core.List.{List, [], ◌∷◌, ◌++◌}
-use Rattle.savefile.specs.Savefile.{joined, number_at, is_magic, magic_of, header_in, header_of, next_of, walk_of, file_walk, walked_of, opened_of}
-use Rattle.savefile.specs.declared.Opened.TheVariants.{Capture, Refused}
+use Rattle.savefile.specs.Savefile.{joined, opens, number_at, is_magic, magic_of, header_in, header_of, next_of, walk_of, file_walk, walked_of, opened_of}
+use Rattle.refusals.specs.Refusal.Answer.{Refused, Given}
+use Rattle.savefile.specs.declared.ByteOrder.TheVariants.{Big, Little}
 
 abbrev big_micro : List ℕ
 big_micro = 0xa1 ∷ 0xb2 ∷ 0xc3 ∷ 0xd4 ∷ []
@@ -37,9 +37,9 @@ cut_header = 0 ∷ 0 ∷ 0 ∷ 0 ∷ 0 ∷ 0 ∷ 0 ∷ 0 ∷ 0 ∷ 0 ∷ 64 ∷ 
 
 -- THEOREM: each row is an input and its answer.
 pub checked :
-    (opened_of (big_micro ++ rest ++ ethernet ++ two_bytes) ≡ Capture true 0)
-    × (opened_of (little_nano ++ rest ++ raw_ip) ≡ Capture false 1)
-    × (opened_of (little_nano ++ rest ++ cooked) ≡ Capture false 2)
+    (opened_of (big_micro ++ rest ++ ethernet ++ two_bytes) ≡ Given (opens Big 0))
+    × (opened_of (little_nano ++ rest ++ raw_ip) ≡ Given (opens Little 1))
+    × (opened_of (little_nano ++ rest ++ cooked) ≡ Given (opens Little 2))
     × (opened_of [] ≡ Refused 42 0)
     × (opened_of (9 ∷ 9 ∷ 9 ∷ []) ≡ Refused 42 0)
     × (opened_of (9 ∷ 9 ∷ 9 ∷ 9 ∷ []) ≡ Refused 40 0)

@@ -7,55 +7,58 @@ use native.Mathlib.Omega.{arith}
 use borrow.Author.Tests.{lt-ltb, le-ltb}
 use lib.ListN.{length}
 use lib.Dec.{eqb, ltb, nltb→le}
-use Rattle.savefile.specs.Savefile.{number_at, next_of, stays, after, walk_of, walked_of}
-use Rattle.savefile.specs.declared.Next.{Next}
-use Rattle.savefile.specs.declared.Next.TheVariants.{Record, Fault}
-use Rattle.savefile.specs.declared.Opened.TheVariants.{Capture, Refused}
+use Rattle.refusals.specs.Refusal.{Answer}
+use Rattle.refusals.specs.Refusal.Answer.{Refused, Given}
+use Rattle.savefile.specs.Savefile.{number_at, entry, next_of, stays, after, walk_of, walked_of}
+use Rattle.savefile.specs.declared.ByteOrder.{ByteOrder}
+use Rattle.savefile.specs.declared.Header.{Header}
+use Rattle.savefile.specs.declared.Record.{Record}
 
 -- The tests of a record, case by case.
-module _ (big : Bool) (s : List ℕ) (at : ℕ) where
-  pub next_short : length s < at + 16 → Fault 42 ≡ next_of big s at
+module _ (order : ByteOrder) (s : List ℕ) (at : ℕ) where
+  pub next_short : length s < at + 16 → Refused 42 at ≡ next_of order s at
   unfolding next_of
   next_short h = rw (lt-ltb (length s) (at + 16) h) refl
 
-  module _ (h : at + 16 ≤ length s) (captured : ℕ) (e : captured ≡ number_at big s (at + 8)) where
-    pub next_long : 16384 < captured → Fault 43 ≡ next_of big s at
+  module _ (h : at + 16 ≤ length s) (captured : ℕ) (e : captured ≡ number_at order s (at + 8)) where
+    pub next_long : 16384 < captured → Refused 43 at ≡ next_of order s at
     unfolding next_of
     next_long q = rw (← e, le-ltb (length s) (at + 16) h, lt-ltb 16384 captured q) refl
 
-    pub next_body : captured ≤ 16384 → length s < at + 16 + captured → Fault 42 ≡ next_of big s at
+    pub next_body : captured ≤ 16384 → length s < at + 16 + captured → Refused 42 at ≡ next_of order s at
     unfolding next_of
     next_body q g = rw (← e, le-ltb (length s) (at + 16) h, le-ltb 16384 captured q, lt-ltb (length s) (at + 16 + captured) g) refl
 
-    pub next_here : captured ≤ 16384 → at + 16 + captured ≤ length s → (original : ℕ) → original ≡ number_at big s (at + 12) → Record captured original ≡ next_of big s at
+    pub next_here : captured ≤ 16384 → at + 16 + captured ≤ length s → (original : ℕ) → original ≡ number_at order s (at + 12) → Given (entry captured original) ≡ next_of order s at
     unfolding next_of
     next_here q g original eo = rw (← e, ← eo, le-ltb (length s) (at + 16) h, le-ltb 16384 captured q, le-ltb (length s) (at + 16 + captured) g) refl
 
-  abbrev tested : Bool → Bool → Bool → Next
-  tested a b c = cond a (Fault 42) (cond b (Fault 43) (cond c (Fault 42) (Record (number_at big s (at + 8)) (number_at big s (at + 12)))))
+  abbrev tested : Bool → Bool → Bool → Answer Record
+  tested a b c = cond a (Refused 42 at) (cond b (Refused 43 at) (cond c (Refused 42 at) (Given (entry (number_at order s (at + 8)) (number_at order s (at + 12))))))
 
   -- A record lies in the file, and its captured length is at most 16,384.
-  pub inside : (captured original : ℕ) → next_of big s at ≡ Record captured original → (at + 16 + captured ≤ length s) × (captured ≤ 16384)
+  pub inside : (r : Record) → next_of order s at ≡ Given r → (at + 16 + r.captured ≤ length s) × (r.captured ≤ 16384)
   unfolding next_of
-  inside captured original e = go (ltb (length s) (at + 16)) (ltb 16384 (number_at big s (at + 8))) (ltb (length s) (at + 16 + number_at big s (at + 8))) refl refl e
+  inside r e = go (ltb (length s) (at + 16)) (ltb 16384 (number_at order s (at + 8))) (ltb (length s) (at + 16 + number_at order s (at + 8))) refl refl e
     where
-      go : (a b c : Bool) → ltb 16384 (number_at big s (at + 8)) ≡ b → ltb (length s) (at + 16 + number_at big s (at + 8)) ≡ c
-          → tested a b c ≡ Record captured original → (at + 16 + captured ≤ length s) × (captured ≤ 16384)
+      go : (a b c : Bool) → ltb 16384 (number_at order s (at + 8)) ≡ b → ltb (length s) (at + 16 + number_at order s (at + 8)) ≡ c
+          → tested a b c ≡ Given r → (at + 16 + r.captured ≤ length s) × (r.captured ≤ 16384)
       go true b c x y q = let z : ◌≡◌ {A = ℕ} 0 1 = cc in absurd (omega arith)
       go false true c x y q = let z : ◌≡◌ {A = ℕ} 0 1 = cc in absurd (omega arith)
       go false false true x y q = let z : ◌≡◌ {A = ℕ} 0 1 = cc in absurd (omega arith)
       go false false false x y q =
-          let k : number_at big s (at + 8) ≡ captured = cc in
-          let f : number_at big s (at + 8) ≤ 16384 = nltb→le 16384 (number_at big s (at + 8)) (rw x tt) in
-          let g : at + 16 + number_at big s (at + 8) ≤ length s = nltb→le (length s) (at + 16 + number_at big s (at + 8)) (rw y tt) in
+          let w : entry (number_at order s (at + 8)) (number_at order s (at + 12)) ≡ r = cc in
+          let k : number_at order s (at + 8) ≡ r.captured = ap (λ (x : Record). x.captured) w in
+          let f : number_at order s (at + 8) ≤ 16384 = nltb→le 16384 (number_at order s (at + 8)) (rw x tt) in
+          let g : at + 16 + number_at order s (at + 8) ≤ length s = nltb→le (length s) (at + 16 + number_at order s (at + 8)) (rw y tt) in
           (omega (arith, k, g), omega (arith, k, f))
 
   -- A fault has a number.
-  pub faulty : (number : ℕ) → next_of big s at ≡ Fault number → eqb number 0 ≡ false
+  pub faulty : (number place : ℕ) → next_of order s at ≡ Refused number place → eqb number 0 ≡ false
   unfolding next_of
-  faulty number e = go (ltb (length s) (at + 16)) (ltb 16384 (number_at big s (at + 8))) (ltb (length s) (at + 16 + number_at big s (at + 8))) e
+  faulty number place e = go (ltb (length s) (at + 16)) (ltb 16384 (number_at order s (at + 8))) (ltb (length s) (at + 16 + number_at order s (at + 8))) e
     where
-      go : (a b c : Bool) → tested a b c ≡ Fault number → eqb number 0 ≡ false
+      go : (a b c : Bool) → tested a b c ≡ Refused number place → eqb number 0 ≡ false
       go true b c q = let k : 42 ≡ number = cc in rw (← k) refl
       go false true c q = let k : 43 ≡ number = cc in rw (← k) refl
       go false false true q = let k : 42 ≡ number = cc in rw (← k) refl
@@ -63,38 +66,38 @@ module _ (big : Bool) (s : List ℕ) (at : ℕ) where
 
   -- One record of the walk, where it may take one more.
   module _ (most : ℕ) (left : 0 < most) (more : at < length s) where
-    pub walk_next : (captured original : ℕ) → next_of big s at ≡ Record captured original
-        → walk_of most big s at ≡ after (record { from = at + 16; captured = captured; original = original }) (walk_of (most - 1) big s (at + 16 + captured))
+    pub walk_next : (r : Record) → next_of order s at ≡ Given r
+        → walk_of most order s at ≡ after (record { from = at + 16; captured = r.captured; original = r.original }) (walk_of (most - 1) order s (at + 16 + r.captured))
     unfolding walk_of
-    walk_next captured original e = let q : most ≡ suc (most - 1) = omega arith in ap (λ (n : ℕ). walk_of n big s at) q ∙ rw (lt-ltb at (length s) more, e) refl
+    walk_next r e = let q : most ≡ suc (most - 1) = omega arith in ap (λ (n : ℕ). walk_of n order s at) q ∙ rw (lt-ltb at (length s) more, e) refl
 
-    pub walk_fault : (number : ℕ) → next_of big s at ≡ Fault number → walk_of most big s at ≡ record { records = []; next = at; fault = number }
+    pub walk_fault : (number place : ℕ) → next_of order s at ≡ Refused number place → walk_of most order s at ≡ record { records = []; next = place; fault = number }
     unfolding walk_of
-    walk_fault number e = let q : most ≡ suc (most - 1) = omega arith in ap (λ (n : ℕ). walk_of n big s at) q ∙ rw (lt-ltb at (length s) more, e) refl
+    walk_fault number place e = let q : most ≡ suc (most - 1) = omega arith in ap (λ (n : ℕ). walk_of n order s at) q ∙ rw (lt-ltb at (length s) more, e) refl
 
 -- At the file's end, or with no record left to take, the walk stays.
-pub walk_end : (most : ℕ) (big : Bool) (s : List ℕ) (at : ℕ) → length s ≤ at → walk_of most big s at ≡ stays at
+pub walk_end : (most : ℕ) (order : ByteOrder) (s : List ℕ) (at : ℕ) → length s ≤ at → walk_of most order s at ≡ stays at
 unfolding walk_of
-walk_end zero big s at h = refl
-walk_end (suc most) big s at h = rw (le-ltb at (length s) h) refl
+walk_end zero order s at h = refl
+walk_end (suc most) order s at h = rw (le-ltb at (length s) h) refl
 
-pub walk_none : (most : ℕ) (big : Bool) (s : List ℕ) (at : ℕ) → most ≤ 0 → walk_of most big s at ≡ stays at
+pub walk_none : (most : ℕ) (order : ByteOrder) (s : List ℕ) (at : ℕ) → most ≤ 0 → walk_of most order s at ≡ stays at
 unfolding walk_of
-walk_none zero big s at h = refl
-walk_none (suc most) big s at h = absurd (omega arith)
+walk_none zero order s at h = refl
+walk_none (suc most) order s at h = absurd (omega arith)
 
 -- The opened file by a walk from a later place.
-module _ (big : Bool) (link : ℕ) (s : List ℕ) (at most : ℕ) where
+module _ (order : ByteOrder) (header : Header) (s : List ℕ) (at most : ℕ) where
   module _ (more : at < length s) (room : length s ≤ most + at) where
-    pub opened_next : (captured original : ℕ) → next_of big s at ≡ Record captured original
-        → walked_of (walk_of (most - 1) big s (at + 16 + captured)) big link ≡ walked_of (walk_of most big s at) big link
+    pub opened_next : (r : Record) → next_of order s at ≡ Given r
+        → walked_of (walk_of (most - 1) order s (at + 16 + r.captured)) header ≡ walked_of (walk_of most order s at) header
     unfolding walked_of
-    opened_next captured original e = rw (walk_next big s at most (omega arith) more captured original e) refl
+    opened_next r e = rw (walk_next order s at most (omega arith) more r e) refl
 
-    pub opened_fault : (number : ℕ) → next_of big s at ≡ Fault number → Refused number at ≡ walked_of (walk_of most big s at) big link
+    pub opened_fault : (number place : ℕ) → next_of order s at ≡ Refused number place → Refused number place ≡ walked_of (walk_of most order s at) header
     unfolding walked_of
-    opened_fault number e = rw (walk_fault big s at most (omega arith) more number e, faulty big s at number e) refl
+    opened_fault number place e = rw (walk_fault order s at most (omega arith) more number place e, faulty order s at number place e) refl
 
-  pub opened_end : length s ≤ at → Capture big link ≡ walked_of (walk_of most big s at) big link
+  pub opened_end : length s ≤ at → Given header ≡ walked_of (walk_of most order s at) header
   unfolding walked_of
-  opened_end h = rw (walk_end most big s at h) refl
+  opened_end h = rw (walk_end most order s at h) refl

@@ -12,7 +12,7 @@ use Rattle.ebpf.specs.declared.insn.Insn.{Insn}
 use Rattle.filter.specs.Ast.{link_of}
 use Rattle.filter.specs.First.{first}
 use Rattle.filter.specs.Record.{decode_at}
-use Rattle.filter.specs.Sheet.{step_count, prim_count, token_count, steps_part, prims_part, tokens_part}
+use Rattle.filter.specs.Sheet.{counts, step_count, prim_count, token_count, steps_part, prims_part, tokens_part}
 use Rattle.filter.specs.declared.ast.LinkType.{LinkType}
 use Rattle.filter.proofs.Firsts.{first_is}
 use Rattle.filter.proofs.Sheets.{found}
@@ -21,9 +21,10 @@ use Rattle.checks.specs.Check.{steps_before, check_of}
 use Rattle.checks.specs.Length.{program_length}
 use Rattle.checks.specs.Measure.{admit_of}
 use Rattle.checks.specs.Refusal.{refusal, refusal_at}
-use Rattle.checks.specs.declared.check.Checked.TheVariants.{Good}
+use Rattle.refusals.specs.Refusal.{Answer}
+use Rattle.refusals.specs.Refusal.Answer.{Refused, Given}
+use Rattle.checks.specs.Measure.{asks}
 use Rattle.checks.specs.declared.measure.Measured.{Measured}
-use Rattle.checks.specs.declared.measure.Measured.TheVariants as measured
 use Rattle.checks.proofs.Bounds.{good}
 use Rattle.meaning.specs.Evaluate.{first_refused}
 use Rattle.program.specs.Program.{code_of}
@@ -36,7 +37,6 @@ use Rattle.codegen.specs.Primitives.{emit_primitive}
 use Rattle.generator.specs.Template.{template_of, template}
 use Rattle.generator.specs.Compile.{outcome, outcome_of, answer_of, output_after}
 use Rattle.generator.specs.Compile.Outcome.{late}
-use Rattle.generator.specs.declared.Compiled.TheVariants.{Program}
 use Rattle.generator.proofs.Admitted.{admitted}
 use Rattle.sound.specs.Trees.{program}
 use Rattle.sound.specs.Sheets.{primitive_code, sheet_code, Near}
@@ -72,24 +72,24 @@ record Made (s : List ℕ) (link mode output work l : ℕ) : Type 0 where
   b : ℕ
   c : ℕ
   is : List Insn
-  admits : admit_of s link mode output work ≡ measured.Length a b c l
+  admits : admit_of s link mode output work ≡ Given (asks (counts a b c) l)
   made : compile_l (template mode (link_of link) (steps_part s a) (prims_part s a b)) (tree_of (tokens_part s a b c)) ≡ made_l is
   whole : outcome_of s link mode output work ≡ late l c (made_l is)
 
-made_of : (s : List ℕ) (link mode output work l : ℕ) → answer_of (outcome_of s link mode output work) ≡ Program l → Made s link mode output work l
+made_of : (s : List ℕ) (link mode output work l : ℕ) → answer_of (outcome_of s link mode output work) ≡ Given l → Made s link mode output work l
 unfolding outcome_of outcome answer_of
 made_of s link mode output work l = on_measured (admit_of s link mode output work) refl
   where
-    on_comp : (a b c k : ℕ) → admit_of s link mode output work ≡ measured.Length a b c k → (r : CompL)
-        → compile_l (template mode (link_of link) (steps_part s a) (prims_part s a b)) (tree_of (tokens_part s a b c)) ≡ r → answer_of (late k c r) ≡ Program l → Made s link mode output work l
+    on_comp : (a b c k : ℕ) → admit_of s link mode output work ≡ Given (asks (counts a b c) k) → (r : CompL)
+        → compile_l (template mode (link_of link) (steps_part s a) (prims_part s a b)) (tree_of (tokens_part s a b c)) ≡ r → answer_of (late k c r) ≡ Given l → Made s link mode output work l
     on_comp a b c k m (stopped_l n p) q e = let never : ◌≡◌ {A = ℕ} 0 1 = cc in absurd (omega arith)
     on_comp a b c k m (made_l is) q e =
         let same : k ≡ l = cc in
-        record { a = a; b = b; c = c; is = is; admits = m ∙ ap (λ (n : ℕ). measured.Length a b c n) same; made = q; whole = rw (m, q, same) refl }
+        record { a = a; b = b; c = c; is = is; admits = m ∙ ap (λ (n : ℕ). Given (asks (counts a b c) n)) same; made = q; whole = rw (m, q, same) refl }
 
-    on_measured : (m : Measured) → admit_of s link mode output work ≡ m → answer_of (outcome m s link mode) ≡ Program l → Made s link mode output work l
-    on_measured (measured.Refused n p) m e = let never : ◌≡◌ {A = ℕ} 0 1 = cc in absurd (omega arith)
-    on_measured (measured.Length a b c k) m e = on_comp a b c k m _ refl e
+    on_measured : (m : Answer Measured) → admit_of s link mode output work ≡ m → answer_of (outcome m s link mode) ≡ Given l → Made s link mode output work l
+    on_measured (Refused n p) m e = let never : ◌≡◌ {A = ℕ} 0 1 = cc in absurd (omega arith)
+    on_measured (Given x) m e = on_comp x.counts.steps x.counts.prims x.counts.tokens x.length m _ refl e
 
 -- The first n of two lists, of which the first has n.
 front : (n : ℕ) (xs ys : List ℕ) → length xs ≡ n → take n (xs ++ ys) ≡ xs
@@ -100,7 +100,7 @@ pub record Accepted (s : List ℕ) (link mode work l : ℕ) (out : List ℕ) : T
   pub a : ℕ
   pub b : ℕ
   pub c : ℕ
-  pub checked : check_of s link ≡ Good a b c
+  pub checked : check_of s link ≡ Given (counts a b c)
   pub counts : (step_count s ≡ a) × (prim_count s ≡ b) × (token_count s ≡ c)
   pub length_is : l ≡ program_length (link_of link) (steps_part s a) (prims_part s a b) (tokens_part s a b c) b c
   pub room : 8 * l ≤ length out
@@ -113,7 +113,7 @@ pub record Accepted (s : List ℕ) (link mode work l : ℕ) (out : List ℕ) : T
   pub written : take (8 * l) (output_after (outcome_of s link mode (length out) work) out)
       ≡ code_of (program (sheet_code mode (link_of link) (steps_part s a) (prims_part s a b) (tokens_part s a b c)))
 
-pub accepted : (s : List ℕ) (link mode work l : ℕ) (out : List ℕ) → Bytes s → answer_of (outcome_of s link mode (length out) work) ≡ Program l → Accepted s link mode work l out
+pub accepted : (s : List ℕ) (link mode work l : ℕ) (out : List ℕ) → Bytes s → answer_of (outcome_of s link mode (length out) work) ≡ Given l → Accepted s link mode work l out
 unfolding output_after first_refused sheet_code
 accepted s link mode work l out byte e =
     let m = made_of s link mode (length out) work l e in

@@ -13,7 +13,7 @@ use Rattle.pieces.specs.Fragments.{emit_load}
 use Rattle.codegen.specs.Primitives.{steps_and_cmp, access_at_code}
 use Rattle.filter.specs.Bytes.{be2, be4}
 use Rattle.filter.specs.First.{any}
-use Rattle.filter.specs.Ast.{net_offset}
+use Rattle.filter.specs.Ast.{net_offset, bytes_of}
 use Rattle.filter.specs.Record.{step_at}
 use Rattle.filter.specs.declared.ast.LinkType.{LinkType}
 use Rattle.filter.specs.declared.ast.ArithOp.{ArithOp}
@@ -24,7 +24,7 @@ use Rattle.filter.specs.declared.ast.ByteAccess as access
 use Rattle.checks.specs.Check.{base_of, far, shifts, big_shift}
 use Rattle.checks.specs.Refusal.{op_refusal, step_refusal, steps_refusal}
 use Rattle.meaning.specs.Frame.{there, number, passes}
-use Rattle.meaning.specs.Meaning.{bytes_of, stepped, start4}
+use Rattle.meaning.specs.Meaning.{stepped, start4}
 use Rattle.program.specs.Ends.{Frame}
 use Rattle.sound.specs.Piece.{knows, nothing, falls, Piece, Tests}
 use Rattle.sound.specs.Reads.{Reads}

@@ -14,7 +14,7 @@ use Rattle.patches.specs.Code.{Slot}
 use Rattle.patches.specs.Code.Slot.{fixed}
 use Rattle.pieces.specs.Fragments.{emit_load, fails}
 use Rattle.codegen.specs.Primitives.{check_word_at, check_addr4, emit_host4, emit_net}
-use Rattle.filter.specs.Ast.{net_offset}
+use Rattle.filter.specs.Ast.{net_offset, bytes_of}
 use Rattle.filter.specs.declared.ast.LinkType.{LinkType}
 use Rattle.filter.specs.declared.ast.IpNet.{IpNet}
 use Rattle.filter.specs.declared.ast.Dir.{Dir}
@@ -23,7 +23,7 @@ use Rattle.filter.specs.declared.ast.AccessSize.{AccessSize}
 use Rattle.filter.specs.declared.ast.AccessSize.TheVariants.{Word}
 use Rattle.filter.specs.declared.ast.CmpOp.TheVariants.{Eq}
 use Rattle.meaning.specs.Frame.{there, number, passes}
-use Rattle.meaning.specs.Meaning.{bytes_of, directed, ethertype}
+use Rattle.meaning.specs.Meaning.{directed, ethertype}
 use Rattle.program.specs.Kinds.{and32}
 use Rattle.program.specs.Ends.{Frame}
 use Rattle.program.proofs.Values.{arithmetic_fits}

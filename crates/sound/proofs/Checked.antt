@@ -20,7 +20,7 @@ use Rattle.filter.specs.declared.ast.LinkType.{LinkType}
 use Rattle.filter.proofs.Firsts.{first_lowest}
 use Rattle.filter.proofs.Sheets.{found}
 use Rattle.checks.specs.Check.{one_tree, far_offset, shift_at, check_of}
-use Rattle.checks.specs.declared.check.Checked.TheVariants.{Good}
+use Rattle.refusals.specs.Refusal.Answer.{Given}
 use Rattle.checks.specs.Refusal.{refusal_at}
 use Rattle.meaning.specs.Evaluate.{first_refused}
 use Rattle.checks.specs.Length.{program_length}
@@ -70,7 +70,7 @@ parts_allowed link steps prims tokens a b c byte byte' t f =
     }
 
 -- THEOREM: a sheet of bytes that is past refusals 1 to 6, no primitive of which earns 11 to 19.
-pub sheet_allowed : (s : List ℕ) (link a b c : ℕ) → ((p : ℕ) → get_or s p 0 < 256) → check_of s link ≡ Good a b c
+pub sheet_allowed : (s : List ℕ) (link a b c : ℕ) → ((p : ℕ) → get_or s p 0 < 256) → check_of s link ≡ Given (counts a b c)
     → ltb (first_refused (link_of link) (steps_part s a) (prims_part s a b) b) b ≡ false
     → Allowed (link_of link) (steps_part s a) (prims_part s a b) (tokens_part s a b c) b
 unfolding steps_part prims_part
@@ -89,7 +89,7 @@ counts_low s a b c byte e =
     )
 
 -- THEOREM: L of a checked sheet is below 2^32.
-pub sheet_short : (s : List ℕ) (link a b c : ℕ) → ((p : ℕ) → get_or s p 0 < 256) → check_of s link ≡ Good a b c
+pub sheet_short : (s : List ℕ) (link a b c : ℕ) → ((p : ℕ) → get_or s p 0 < 256) → check_of s link ≡ Given (counts a b c)
     → program_length (link_of link) (steps_part s a) (prims_part s a b) (tokens_part s a b c) b c < 2 ^ 32
 sheet_short s link a b c byte e =
     let l = counts_low s a b c byte (good s link e).found in

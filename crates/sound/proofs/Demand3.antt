@@ -7,15 +7,14 @@ use lib.Dec.{ltb}
 use lib.ListN.{length, get_or, take}
 use Rattle.ebpf.specs.Run.{run_of, first_state}
 use Rattle.filter.specs.Ast.{link_of}
-use Rattle.filter.specs.Sheet.{step_count, prim_count, token_count, steps_part, prims_part, tokens_part}
+use Rattle.filter.specs.Sheet.{counts, step_count, prim_count, token_count, steps_part, prims_part, tokens_part}
 use Rattle.checks.specs.Check.{check_of}
 use Rattle.checks.specs.Length.{program_length}
-use Rattle.checks.specs.declared.check.Checked.TheVariants.{Good}
+use Rattle.refusals.specs.Refusal.Answer.{Given}
 use Rattle.meaning.specs.Evaluate.{expression_holds, first_refused}
 use Rattle.program.specs.Program.{code_of}
 use Rattle.program.specs.Ends.{Exits, Frame}
 use Rattle.generator.specs.Compile.{outcome_of, answer_of, output_after}
-use Rattle.generator.specs.declared.Compiled.TheVariants.{Program}
 use Rattle.sound.specs.Demand.{Bytes, sheet_holds, SmallSheet}
 use Rattle.sound.specs.Memory.{asks_of, AllInside}
 use Rattle.sound.specs.Trees.{program}
@@ -28,7 +27,7 @@ use Rattle.sound.proofs.Memory.{exits_inside}
 
 -- A sheet s of bytes with a steps, b primitives and c tokens, past refusals 1 to 6; no primitive earns 11 to 19, no jump 10.
 module _ {frame : List ℕ} {start : ℕ} (w : Frame frame start) (mode link : ℕ) (s : List ℕ) (a b c : ℕ) (byte : (p : ℕ) → get_or s p 0 < 256)
-    (good : check_of s link ≡ Good a b c) (allowed : ltb (first_refused (link_of link) (steps_part s a) (prims_part s a b) b) b ≡ false)
+    (good : check_of s link ≡ Given (counts a b c)) (allowed : ltb (first_refused (link_of link) (steps_part s a) (prims_part s a b) b) b ≡ false)
     (near : Near mode (link_of link) (steps_part s a) (prims_part s a b) (tokens_part s a b c)) where
   -- The program has L instructions.
   pub compiled_length : length (program (sheet_code mode (link_of link) (steps_part s a) (prims_part s a b) (tokens_part s a b c)))
@@ -64,7 +63,7 @@ same_small mode s a b e f small i h m = rw (← e, ← f) (small m i (rw f h))
 
 -- THEOREM, demand 3, of `compile`: whatever the sheet, the link, the mode, the lent places, the frame and its start, an accepted program,
 -- run on the first 8 x L bytes of the output with budget L, stops 0 after at most L steps, and R0 is 2 exactly when the expression holds, else 1.
-module _ (s : List ℕ) (link mode work l : ℕ) (out : List ℕ) (byte : Bytes s) (compiles : answer_of (outcome_of s link mode (length out) work) ≡ Program l)
+module _ (s : List ℕ) (link mode work l : ℕ) (out : List ℕ) (byte : Bytes s) (compiles : answer_of (outcome_of s link mode (length out) work) ≡ Given l)
     {frame : List ℕ} {start : ℕ} (w : Frame frame start) where
   -- In mended mode; in plain mode where every comparison constant is below 2^31.
   pub passes_exactly : (mode ≡ 0 → SmallSheet s)

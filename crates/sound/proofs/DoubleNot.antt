@@ -1,13 +1,13 @@
 -- THEOREM, document 02's A7, from the sheet's bytes: "Double Not is another matter: where both sheets are accepted, same verdict on each frame, two more instructions."
 use Prim.Native.Nat.{ℕ, ◌+◌, ◌*◌, ◌<◌, ◌≤◌, ◌^◌}
-use mathlib.Core.Path.{◌≡◌, refl, sym, ◌∙◌, subst}
+use mathlib.Core.Path.{◌≡◌, refl, sym, ap, ◌∙◌, subst}
 use mathlib.Core.Bool.{Bool, true, false, not, cond, ◌&&◌, ◌||◌}
 use mathlib.Core.List.{List}
 use native.Mathlib.Omega.{arith}
 use lib.ListN.{length, take}
 use Rattle.ebpf.specs.Run.{run_of}
 use Rattle.filter.specs.Ast.{link_of}
-use Rattle.filter.specs.Sheet.{step_count, prim_count, steps_part, prims_part, tokens_part}
+use Rattle.filter.specs.Sheet.{counts, step_count, prim_count, steps_part, prims_part, tokens_part}
 use Rattle.filter.specs.Written.{Front, written}
 use Rattle.tree.specs.Tree.{Tree, flat, leaves, tree_of}
 use Rattle.tree.specs.Tree.Tree.{inv}
@@ -16,12 +16,12 @@ use Rattle.tree.specs.Regroup.Doubled.{here, and_left, and_right, or_left, or_ri
 use Rattle.tree.proofs.DoubleNot.{doubled_leaves, doubled_jumps}
 use Rattle.checks.specs.Check.{check_of}
 use Rattle.checks.specs.Length.{program_length}
-use Rattle.checks.specs.declared.check.Checked.TheVariants.{Good}
+use Rattle.refusals.specs.Refusal.Answer.{Given}
+use Rattle.filter.specs.declared.sheet.Counts.{Counts}
 use Rattle.patches.specs.Code.{Slot}
 use Rattle.program.specs.Program.{code_of}
 use Rattle.program.specs.Ends.{Exits, Frame}
 use Rattle.generator.specs.Compile.{outcome_of, answer_of, output_after}
-use Rattle.generator.specs.declared.Compiled.TheVariants.{Program}
 use Rattle.sound.specs.Demand.{Bytes}
 use Rattle.sound.specs.Piece.{Means}
 use Rattle.sound.specs.Trees.{tree_code, program}
@@ -38,7 +38,7 @@ use Rattle.sound.proofs.Trees.{and_means, not_means, tree_decides}
 pub record Makes (s : List ℕ) (link mode l : ℕ) (code : List ℕ) : Type 0 where
   pub work : ℕ
   pub output : List ℕ
-  pub answer : answer_of (outcome_of s link mode (length output) work) ≡ Program l
+  pub answer : answer_of (outcome_of s link mode (length output) work) ≡ Given l
   pub left : take (8 * l) (output_after (outcome_of s link mode (length output) work) output) ≡ code
 
 not_not : (q : Bool) → not (not q) ≡ q
@@ -85,13 +85,14 @@ record At (s : List ℕ) (link mode l : ℕ) (code : List ℕ) (a b c : ℕ) : T
   long : l ≡ program_length (link_of link) (steps_part s a) (prims_part s a b) (tokens_part s a b c) b c
   by_tree : code ≡ code_of (program (sheet_code mode (link_of link) (steps_part s a) (prims_part s a b) (tokens_part s a b c)))
 
-at_counts : (s : List ℕ) (link mode l : ℕ) (code : List ℕ) (a b c : ℕ) → Bytes s → check_of s link ≡ Good a b c → Makes s link mode l code → At s link mode l code a b c
+at_counts : (s : List ℕ) (link mode l : ℕ) (code : List ℕ) (a b c : ℕ) → Bytes s → check_of s link ≡ Given (counts a b c) → Makes s link mode l code → At s link mode l code a b c
 at_counts s link mode l code a b c byte e m =
     let x = accepted s link mode m.work l m.output byte m.answer in
-    let g : Good x.a x.b x.c ≡ Good a b c = sym x.checked ∙ e in
-    let ea : x.a ≡ a = cc in
-    let eb : x.b ≡ b = cc in
-    let ec : x.c ≡ c = cc in
+    let g : Given (counts x.a x.b x.c) ≡ Given (counts a b c) = sym x.checked ∙ e in
+    let n : counts x.a x.b x.c ≡ counts a b c = cc in
+    let ea : x.a ≡ a = ap (λ (k : Counts). k.steps) n in
+    let eb : x.b ≡ b = ap (λ (k : Counts). k.prims) n in
+    let ec : x.c ≡ c = ap (λ (k : Counts). k.tokens) n in
     record {
       allowed = sheet_allowed s link a b c byte e (rw (ea, eb) at x.allowed);
       near = rw (ea, eb, ec) at x.near;
@@ -100,7 +101,7 @@ at_counts s link mode l code a b c byte e m =
     }
 
 -- An accepted program exits with what its code decides.
-module _ {frame : List ℕ} {start : ℕ} (w : Frame frame start) (s : List ℕ) (link mode l : ℕ) (code : List ℕ) (a b c : ℕ) (byte : Bytes s) (e : check_of s link ≡ Good a b c)
+module _ {frame : List ℕ} {start : ℕ} (w : Frame frame start) (s : List ℕ) (link mode l : ℕ) (code : List ℕ) (a b c : ℕ) (byte : Bytes s) (e : check_of s link ≡ Given (counts a b c))
     (x : At s link mode l code a b c) where
   abbrev slots : List Slot
   slots = sheet_code mode (link_of link) (steps_part s a) (prims_part s a b) (tokens_part s a b c)

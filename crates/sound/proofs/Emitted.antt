@@ -5,11 +5,12 @@ use mathlib.Core.List.{List, [], ◌∷◌, ◌++◌, append_assoc, append-nil}
 use native.Mathlib.Omega.{arith}
 use lib.ListN.{length, length-append}
 use Rattle.ebpf.specs.declared.insn.Insn.{Insn}
-use Rattle.patches.specs.declared.Patched.TheVariants.{Done, TooFar}
+use Rattle.std.specs.Prelude.{Ok, Err}
+use Rattle.patches.specs.Chain.{too_far, Patched}
 use Rattle.patches.specs.Chain.{reach}
 use Rattle.patches.specs.Code.{Slot, successes, failures}
 use Rattle.patches.specs.Code.Slot.{success, failure}
-use Rattle.patches.specs.Finish.{ja}
+use Rattle.patches.specs.Operators.{ja}
 use Rattle.patches.specs.Whole as whole
 use Rattle.patches.specs.Listing.{resolved_l, listed, ResL, and_done_l, or_done_l}
 use Rattle.patches.specs.Listing.ResL.{ok_l}
@@ -86,7 +87,7 @@ module _ (p : ℕ) (xs : List Slot) where
 both_joined : (is : List Insn) (xs ys : List Slot) → joined is xs ++ insns ys ≡ joined is (xs ++ ys)
 both_joined is xs ys = append_assoc is (insns xs) (insns ys) ∙ ap (λ (js : List Insn). is ++ js) (sym (insns_append xs ys))
 
-far_done : TooFar ≡ Done → ⊥
+far_done : ◌≡◌ {A = Patched} (Err too_far) (Ok tt) → ⊥
 far_done e = let z : ◌≡◌ {A = ℕ} 0 1 = cc e in absurd (omega arith)
 
 module _ (is : List Insn) (xs : List Slot) where
@@ -160,16 +161,16 @@ module _ (is : List Insn) (xs : List Slot) where
       ∙ ap (λ (js : List Insn). is ++ (js ++ epilogue)) (insns_filled 0 2 xs)
 
   -- Refusal 10 comes where a jump is too far, and only there.
-  pub success_near : reach (end is xs) (on_success is xs) ≡ Done → SuccessNear 0 xs
+  pub success_near : reach (end is xs) (on_success is xs) ≡ Ok tt → SuccessNear 0 xs
   success_near e = (successes_near (end is xs) 0 (length is) xs [] end_past e).0
 
-  pub failure_near : (k : ℕ) → reach (end is xs + k) (on_failure is xs) ≡ Done → FailureNear k xs
+  pub failure_near : (k : ℕ) → reach (end is xs + k) (on_failure is xs) ≡ Ok tt → FailureNear k xs
   failure_near k e = (failures_near (end is xs + k) k (length is) xs [] (further_past k) e).0
 
-  pub success_far : reach (end is xs) (on_success is xs) ≡ TooFar → SuccessNear 0 xs → ⊥
+  pub success_far : reach (end is xs) (on_success is xs) ≡ Err too_far → SuccessNear 0 xs → ⊥
   unfolding reach
   success_far e s = far_done (sym e ∙ successes_done (end is xs) 0 (length is) xs [] end_past s)
 
-  pub failure_far : (k : ℕ) → reach (end is xs + k) (on_failure is xs) ≡ TooFar → FailureNear k xs → ⊥
+  pub failure_far : (k : ℕ) → reach (end is xs + k) (on_failure is xs) ≡ Err too_far → FailureNear k xs → ⊥
   unfolding reach
   failure_far k e f = far_done (sym e ∙ failures_done (end is xs + k) k (length is) xs [] (further_past k) f)

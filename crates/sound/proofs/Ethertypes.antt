@@ -8,12 +8,12 @@ use borrow.Author.Tests.{eqb-true}
 use lib.Dec.{eqb}
 use Rattle.std.specs.Prelude.{Option, Some, None}
 use Rattle.pieces.specs.Fragments.{past, guard, load, emit_load, check, fails, ethertype_at_code, emit_ethertype, emit_ip4_l4, emit_ip6_l4, dual_at, emit_dual_l4}
-use Rattle.filter.specs.Ast.{ether_proto_offset, net_offset}
+use Rattle.filter.specs.Ast.{ether_proto_offset, net_offset, bytes_of}
 use Rattle.filter.specs.declared.ast.LinkType.{LinkType}
 use Rattle.filter.specs.declared.ast.AccessSize.TheVariants.{Byte, Half}
 use Rattle.checks.specs.Refusal.{etherless, unless_ether, ether_refusal}
 use Rattle.meaning.specs.Frame.{there, number, passes}
-use Rattle.meaning.specs.Meaning.{bytes_of, ethertype_at, ethertype, ip, ip6, ip4_proto, ip6_proto, dual_proto}
+use Rattle.meaning.specs.Meaning.{ethertype_at, ethertype, ip, ip6, ip4_proto, ip6_proto, dual_proto}
 use Rattle.program.specs.Ends.{Frame}
 use Rattle.sound.specs.Piece.{nothing, Tests}
 use Rattle.sound.proofs.Bools.{or_false}

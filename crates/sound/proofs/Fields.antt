@@ -5,6 +5,7 @@ use mathlib.Core.Bool.{Bool, true, ◌&&◌}
 use mathlib.Core.List.{List, [], ◌∷◌, ◌++◌}
 use mathlib.Core.Option.{Option, none, some}
 use native.Mathlib.Omega.{arith}
+use Rattle.filter.specs.Ast.{bytes_of}
 use Rattle.ebpf.specs.Insn.{alu32_imm}
 use Rattle.ebpf.specs.Alu.{alu32}
 use Rattle.patches.specs.Code.{Slot}
@@ -16,7 +17,7 @@ use Rattle.filter.specs.declared.ast.CmpOp.TheVariants.{Eq}
 use Rattle.filter.specs.declared.ast.ArithOp.{ArithOp}
 use Rattle.filter.specs.declared.ast.ArithOp.TheVariants.{Add, Sub, Mul, Div, Mod, And, Or, Xor, Shl, Shr}
 use Rattle.meaning.specs.Frame.{there, number, passes}
-use Rattle.meaning.specs.Meaning.{bytes_of, arith as worked, stepped}
+use Rattle.meaning.specs.Meaning.{arith as worked, stepped}
 use Rattle.program.specs.Kinds.{Arithmetic, add32, sub32, mul32, div32, or32, and32, lsh32, rsh32, xor32}
 use Rattle.program.specs.Ends.{Frame}
 use Rattle.program.proofs.Registers.{r4}

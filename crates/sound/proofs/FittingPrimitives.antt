@@ -15,11 +15,11 @@ use Rattle.pieces.specs.Fragments.{past, sides, guard, load, end_of, emit_load, 
 use Rattle.pieces.specs.Fragments.{ethertype_at_code, emit_ethertype, emit_ip4_l4, emit_ip6_l4, dual_at, emit_dual_l4}
 use Rattle.filter.specs.Prefix.{prefix_mask}
 use Rattle.filter.proofs.Masks.{mask_low}
-use Rattle.codegen.specs.Primitives.{segment, check_word_at, check_addr4, emit_host4, emit_net, check_segment, check_net6, emit_net6, l4_number}
+use Rattle.codegen.specs.Primitives.{check_word_at, check_addr4, emit_host4, emit_net, check_segment, check_net6, emit_net6, l4_number}
 use Rattle.codegen.specs.Primitives.{emit_l4_proto_check, prereqs_v6, prereqs_v4, prereqs_at, emit_port_prereqs, check_port, check_ports, emit_port, check_range, emit_portrange}
 use Rattle.codegen.specs.Primitives.{check_mac, mirrored, emit_ether_host, emit_ether_multicast, emit_ip_broadcast, emit_ip_multicast, emit_ip6_multicast}
 use Rattle.codegen.specs.Primitives.{vlan_id, emit_vlan, mpls_at, emit_mpls, session_id, emit_pppoe_session, emit_len, emit_proto, steps_and_cmp, access_at_code, access_rhs_code, emit_byte_access, emit_primitive}
-use Rattle.filter.specs.Ast.{ether_proto_offset, net_offset}
+use Rattle.filter.specs.Ast.{ether_proto_offset, net_offset, segment_of}
 use Rattle.filter.specs.Record.{step_at}
 use Rattle.filter.specs.declared.ast.LinkType.{LinkType}
 use Rattle.filter.specs.declared.ast.AccessSize.{AccessSize}
@@ -39,7 +39,6 @@ use Rattle.filter.specs.declared.ast.ByteAccess as access
 use Rattle.filter.specs.declared.ast.Primitive.{Primitive}
 use Rattle.filter.specs.declared.ast.Primitive.TheVariants.{Host, Host6, Port, PortRange, Net, Net6, Proto, EtherHost, EtherProto, EtherMulticast, IpBroadcast, IpMulticast, Ip6Multicast, Vlan, Mpls, PppoeDiscovery, PppoeSession, IpProtoChain, Ip6ProtoChain, Len, Inbound, Outbound, ByteAccess}
 use Rattle.checks.specs.Check.{base_of}
-use Rattle.meaning.specs.Meaning.{half_of}
 use Rattle.sound.specs.Fine.{FineProto, FineId, FineLabel, FineRhs, Fine}
 use Rattle.sound.specs.Fitting.{FitSlots, no_slots}
 use Rattle.sound.proofs.Filled.{past_append}
@@ -169,17 +168,17 @@ module _ (mode : ℕ) where
 
     module _ (addr : Ipv6Addr) (prefix at : ℕ) where
       segment_fits : (i : ℕ) → at + 2 * i < 2 ^ 15 → FitSlots (check_segment mode link addr prefix at i)
-      unfolding check_segment segment half_of
+      unfolding check_segment segment_of
       segment_fits i m = append_fits (emit_load_fits Half (at + 2 * i) m) (go (leb (16 * i + 16) prefix))
         where
-          go : (full : Bool) → FitSlots (cond full (fails mode JNE (half_of addr i)) (fixed (alu32_imm AND 4 (prefix_mask (prefix - 16 * i)))
-              ∷ fails mode JNE (bit_and (half_of addr i) (prefix_mask (prefix - 16 * i)))))
-          go true = fails_fits JNE (half_of addr i) (let low = half_low addr i in omega arith)
+          go : (full : Bool) → FitSlots (cond full (fails mode JNE (segment_of addr i)) (fixed (alu32_imm AND 4 (prefix_mask (prefix - 16 * i)))
+              ∷ fails mode JNE (bit_and (segment_of addr i) (prefix_mask (prefix - 16 * i)))))
+          go true = fails_fits JNE (segment_of addr i) (let low = half_low addr i in omega arith)
           go false =
               let low = half_low addr i in
               let low' = mask_low (prefix - 16 * i) in
               masked_fits AND (prefix_mask (prefix - 16 * i)) (omega arith)
-              (fails_fits JNE (bit_and (half_of addr i) (prefix_mask (prefix - 16 * i))) (omega (arith, and_le_l (half_of addr i) (prefix_mask (prefix - 16 * i)))))
+              (fails_fits JNE (bit_and (segment_of addr i) (prefix_mask (prefix - 16 * i))) (omega (arith, and_le_l (segment_of addr i) (prefix_mask (prefix - 16 * i)))))
 
       halves_fit : (n i : ℕ) → at + 2 * i + 2 * n < 2 ^ 15 → FitSlots (check_net6 mode link addr prefix at n i)
       unfolding check_net6
@@ -195,8 +194,8 @@ module _ (mode : ℕ) where
       unfolding check_segment emit_load guard load fails past
       segment_short i k = go (leb (16 * i + 16) prefix)
         where
-          go : (full : Bool) → past (emit_load Half (at + 2 * i) ++ cond full (fails mode JNE (segment addr i))
-              (fixed (alu32_imm AND 4 (prefix_mask (prefix - 16 * i))) ∷ fails mode JNE (bit_and (segment addr i) (prefix_mask (prefix - 16 * i))))) k ≤ 7 + k
+          go : (full : Bool) → past (emit_load Half (at + 2 * i) ++ cond full (fails mode JNE (segment_of addr i))
+              (fixed (alu32_imm AND 4 (prefix_mask (prefix - 16 * i))) ∷ fails mode JNE (bit_and (segment_of addr i) (prefix_mask (prefix - 16 * i))))) k ≤ 7 + k
           go true = omega arith
           go false = omega arith
 

@@ -8,11 +8,11 @@ use borrow.Author.Tests.{ltb-true, ltb-false}
 use lib.Dec.{ltb}
 use Rattle.ebpf.specs.declared.insn.Insn.{Insn}
 use Rattle.tree.specs.Tree.{Tree, leaf, and, or, inv, leaves}
-use Rattle.patches.specs.declared.Patched.{Patched}
-use Rattle.patches.specs.declared.Patched.TheVariants.{Done, TooFar}
+use Rattle.patches.specs.Chain.{Patched}
+use Rattle.std.specs.Prelude.{Ok, Err}
 use Rattle.patches.specs.Chain.{reach}
 use Rattle.patches.specs.Code.{Slot}
-use Rattle.patches.specs.Finish.{ja}
+use Rattle.patches.specs.Operators.{ja}
 use Rattle.patches.specs.Machine.{Tpl}
 use Rattle.patches.specs.Machine.Tpl.{code, refused}
 use Rattle.patches.specs.Whole as whole
@@ -91,8 +91,8 @@ module _ (tpl : ℕ → Tpl) (prim : ℕ → List Slot) where
 
         go : (p : Patched) → reach (end is left) (on_success is left) ≡ p
             → Emits (and a b) k is (when_l p (after (resolved_l (end is left) (on_success is left) (joined is left))))
-        go TooFar e = stops (λ c n. success_far is left e n.1)
-        go Done e =
+        go (Err _) e = stops (λ c n. success_far is left e n.1)
+        go (Ok _) e =
             let s = success_near is left e in
             subst (λ (js : List Insn). Emits (and a b) k is (after js)) (sym (and_resolved is left s)) (and_done c n s _ (law (joined is (landed 0 left))))
 
@@ -116,8 +116,8 @@ module _ (tpl : ℕ → Tpl) (prim : ℕ → List Slot) where
 
         go : (p : Patched) → reach (end is left + 1) (on_failure is left) ≡ p
             → Emits (or a b) k is (when_l p (after (resolved_l (end is left + 1) (on_failure is left) (joined is left ++ (ja ∷ [])))))
-        go TooFar e = stops (λ c n. failure_far is left 1 e n.1)
-        go Done e =
+        go (Err _) e = stops (λ c n. failure_far is left 1 e n.1)
+        go (Ok _) e =
             let f = failure_near is left 1 e in
             subst (λ (js : List Insn). Emits (or a b) k is (after js)) (sym (ja_resolved is left f)) (or_done c n f _ (law (joined is (settled 1 left) ++ (ja ∷ []))))
 
@@ -134,8 +134,8 @@ module _ (tpl : ℕ → Tpl) (prim : ℕ → List Slot) where
 
       go : (p : Patched) → reach (end is xs + 1) (on_failure is xs) ≡ p
           → Emits (inv a) k is (when_l p (after (resolved_l (end is xs + 1) (on_failure is xs) (joined is xs ++ (ja ∷ [])))))
-      go TooFar e' = stops (λ c n. failure_far is xs 1 e' n.1)
-      go Done e' =
+      go (Err _) e' = stops (λ c n. failure_far is xs 1 e' n.1)
+      go (Ok _) e' =
           let f = failure_near is xs 1 e' in
           subst (λ (r : ResL). Emits (inv a) k is r) (sym (ap after (ja_resolved is xs f) ∙ not_emitted is xs m)) (goes e c (n, f))
 
@@ -177,9 +177,9 @@ module _ (tpl : ℕ → Tpl) (prim : ℕ → List Slot) (t : Tree) where
 
       go : (p q : Patched) → reach (end is xs) (on_success is xs) ≡ p → reach (end is xs + 2) (on_failure is xs) ≡ q
           → Makes (end_l p q (resolved_l (end is xs + 2) (on_failure is xs) (resolved_l (end is xs) (on_success is xs) (listed whole.epilogue (joined is xs)))))
-      go TooFar q e e' = refuses (λ c n. success_far is xs e n.to_accept)
-      go Done TooFar e e' = refuses (λ c n. failure_far is xs 2 e' n.to_drop)
-      go Done Done e e' =
+      go (Err _) q e e' = refuses (λ c n. success_far is xs e n.to_accept)
+      go (Ok _) (Err _) e e' = refuses (λ c n. failure_far is xs 2 e' n.to_drop)
+      go (Ok _) (Ok _) e e' =
           let s = success_near is xs e in
           let f = failure_near is xs 2 e' in
           subst (λ (js : List Insn). Makes (made_l js)) (sym (exits_resolved is xs s f)) (makes c (record { inside = n; to_accept = s; to_drop = f }))

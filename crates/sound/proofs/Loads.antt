@@ -8,14 +8,14 @@ use native.Mathlib.Omega.{arith}
 use native.Mathlib.Nat.{add-zero, mod-eq_of_lt}
 use borrow.Author.Tests.{le-leb, lt-leb}
 use lib.ListN.{length, get_or}
+use Rattle.filter.specs.Ast.{bytes_of}
 use Rattle.ebpf.specs.Opcode.{JGT}
 use Rattle.ebpf.specs.declared.insn.Insn.{Insn}
 use Rattle.ebpf.specs.declared.regs.Regs.{Regs}
-use Rattle.pieces.specs.Fragments.{past, guard, load, size_bytes, end_of, emit_load}
+use Rattle.pieces.specs.Fragments.{past, guard, load, end_of, emit_load}
 use Rattle.filter.specs.declared.ast.AccessSize.{AccessSize}
 use Rattle.filter.specs.declared.ast.AccessSize.TheVariants.{Byte, Half, Word}
 use Rattle.meaning.specs.Frame.{there, number}
-use Rattle.meaning.specs.Meaning.{bytes_of}
 use Rattle.program.specs.Kinds.{byte, half, word, bits16, bits32}
 use Rattle.program.specs.Ends.{Ends, Frame, Place, Cell, holds, between}
 use Rattle.program.proofs.Registers.{r2, r3, r4, r5, r6}
@@ -24,13 +24,6 @@ use Rattle.program.proofs.Steps.{on_mov, on_add_imm, on_jgt, on_load, on_swap}
 use Rattle.sound.specs.Filled.{filled}
 use Rattle.sound.specs.Piece.{Known, knows, falls, Piece}
 use Rattle.sound.proofs.Filled.{filled_then, on_past, off_reg}
-
--- Both crates' words for a size in bytes.
-pub same_size : (size : AccessSize) → size_bytes size ≡ bytes_of size
-unfolding size_bytes bytes_of
-same_size Byte = refl
-same_size Half = refl
-same_size Word = refl
 
 -- An offset that the sheet's refusals let through keeps its 16 bits, and its end its 32.
 pub low_offset : (off : ℕ) → off < 2 ^ 15 → off % 2 ^ 16 ≡ off
@@ -44,7 +37,7 @@ at_most_four Word = omega arith
 
 pub end_is : (size : AccessSize) (off : ℕ) → off < 2 ^ 15 → end_of size off ≡ off + bytes_of size
 unfolding end_of
-end_is size off h = rw (same_size size) (mod-eq_of_lt (omega (arith, at_most_four size)))
+end_is size off h = mod-eq_of_lt (omega (arith, at_most_four size))
 
 module _ {frame : List ℕ} {start : ℕ} (w : Frame frame start) where
   number1 : (j : ℕ) → number frame 1 j ≡ get_or frame j 0

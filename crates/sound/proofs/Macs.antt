@@ -8,6 +8,7 @@ use native.Mathlib.Nat.{add-zero, add_assoc}
 use borrow.Author.Tests.{leb-true, leb-false, le-leb, lt-leb, eqb-true, eqb-false, eq-eqb, ne_eqb}
 use lib.Dec.{eqb, leb, ltb}
 use lib.ListN.{length}
+use Rattle.filter.specs.Ast.{bytes_of}
 use Rattle.codegen.specs.Primitives.{mirrored, check_mac, emit_ether_host}
 use Rattle.filter.specs.declared.ast.LinkType.{LinkType}
 use Rattle.filter.specs.declared.ast.Dir.{Dir}
@@ -15,7 +16,7 @@ use Rattle.filter.specs.declared.ast.Dir.TheVariants.{SrcOrDst, Src, Dst, SrcAnd
 use Rattle.filter.specs.declared.ast.AccessSize.TheVariants.{Half, Word}
 use Rattle.filter.specs.declared.ast.CmpOp.TheVariants.{Eq}
 use Rattle.meaning.specs.Frame.{there, number, passes}
-use Rattle.meaning.specs.Meaning.{bytes_of, directed, ether_host}
+use Rattle.meaning.specs.Meaning.{directed, ether_host}
 use Rattle.program.specs.Ends.{Frame}
 use Rattle.sound.specs.Piece.{Tests, Means}
 use Rattle.sound.specs.Reads.{Reads}

@@ -1,5 +1,6 @@
 -- A run that exits has asked for nothing outside the frame and the two context words; and what it asks for is all that it reads.
 use Prim.Native.Nat.{ℕ, zero, suc, ◌+◌, ◌-◌, ◌*◌, ◌/◌, ◌%◌, ◌^◌, ◌≤◌}
+use Rattle.std.specs.Prelude.{Option, Some, None}
 use mathlib.Core.Path.{◌≡◌, refl, ap, ◌∙◌}
 use mathlib.Core.Logic.{◌⊎◌, inl, inr}
 use mathlib.Core.Bool.{Bool, true, false, not, cond, ◌&&◌}
@@ -12,15 +13,14 @@ use Rattle.ebpf.specs.Insn.{insn_at}
 use Rattle.ebpf.specs.Alu.{sext16}
 use Rattle.ebpf.specs.Form.{Form, NotOurs, Context, Load, Reg64, Imm64, Imm32, Swap, Jump, Branch, BranchReg, Exit, form_of}
 use Rattle.ebpf.specs.Regs.{known_of, value_of}
-use Rattle.ebpf.specs.Step.{outside, unwritten, nowhere, le_at, context_act, frame_act, load_act, act_of, act_at, status_of, turn_of, step_of}
+use Rattle.ebpf.specs.Step.{outside, unwritten, nowhere, le_at, context_act, frame_act, load_act, act_of, act_at, halt_of, turn_of, step_of}
 use Rattle.ebpf.specs.Run.{ended_of, after, go_of, unless35, run_of, first_state}
 use Rattle.ebpf.specs.Sure.{Fine}
 use Rattle.ebpf.specs.declared.regs.Regs.{Regs}
 use Rattle.ebpf.specs.declared.act.Act.{Act}
 use Rattle.ebpf.specs.declared.act.Act.TheVariants.{Writes, Jumps, Falls, Halts}
 use Rattle.ebpf.specs.declared.step.State.{State}
-use Rattle.ebpf.specs.declared.step.Status.{Status}
-use Rattle.ebpf.specs.declared.step.Status.TheVariants.{Going, Halted}
+use Rattle.ebpf.specs.declared.act.Halt.{Halt}
 use Rattle.ebpf.specs.declared.run.Outcome.{Outcome}
 use Rattle.sound.specs.Memory.{Ask, nothing, bytes, ask_of, ask_at, further, asks_of, Inside, AllInside, Same, AllSame}
 
@@ -83,17 +83,17 @@ module _ (frame : List ℕ) (start : ℕ) where
       go false h = tt
 
   -- Where the run from a step on exits, the step does not stop otherwise.
-  fine : (a : Act) (t : State) (more : State → Outcome) (n : ℕ) → (after (status_of a) t more n).stop ≡ 0 → Fine a
-  unfolding status_of ended_of
+  fine : (a : Act) (t : State) (more : State → Outcome) (n : ℕ) → (after (halt_of a) t more n).stop ≡ 0 → Fine a
+  unfolding halt_of ended_of
   fine (Writes dst value) t more n h = tt
   fine (Jumps off) t more n h = tt
   fine Falls t more n h = tt
-  fine (Halts stop r0) t more n h = h
+  fine (Halts halt) t more n h = h
 
-  onward : (x : Status) (t : State) (more : State → Outcome) (asks : State → List Ask) (n : ℕ) → ((t : State) → (more t).stop ≡ 0 → AllInside frame start (asks t))
+  onward : (x : Option Halt) (t : State) (more : State → Outcome) (asks : State → List Ask) (n : ℕ) → ((t : State) → (more t).stop ≡ 0 → AllInside frame start (asks t))
       → (after x t more n).stop ≡ 0 → AllInside frame start (further x t asks)
-  onward Going t more asks n each h = each t h
-  onward (Halted stop r0) t more asks n each h = tt
+  onward None t more asks n each h = each t h
+  onward (Some halt) t more asks n each h = tt
 
   go_inside : (left k : ℕ) (program : List ℕ) (s : State) (n : ℕ) → (go_of left program frame start s n).stop ≡ 0 → AllInside frame start (asks_of k program frame start s)
   unfolding go_of asks_of step_of turn_of
@@ -103,7 +103,7 @@ module _ (frame : List ℕ) (start : ℕ) where
       let a = act_at program frame start s.regs s.pc in
       let t = (step_of program frame start s).state in (
         place_inside program s (fine a t (λ t. go_of left program frame start t (n + 1)) n h),
-        onward (status_of a) t (λ t. go_of left program frame start t (n + 1)) (λ t. asks_of k program frame start t) n
+        onward (halt_of a) t (λ t. go_of left program frame start t (n + 1)) (λ t. asks_of k program frame start t) n
             (λ t. go_inside left k program t (n + 1)) h,
       )
 
@@ -145,10 +145,10 @@ module _ (start : ℕ) (f g : List ℕ) (long : length f ≡ length g) where
       go true h = form_same (form_of (insn_at program (s.pc * 8))) s.regs h
       go false h = refl
 
-  onward_same : (x : Status) (t : State) (more more' : State → Outcome) (asks : State → List Ask) (n : ℕ) → ((t : State) → AllSame start f g (asks t) → more t ≡ more' t)
+  onward_same : (x : Option Halt) (t : State) (more more' : State → Outcome) (asks : State → List Ask) (n : ℕ) → ((t : State) → AllSame start f g (asks t) → more t ≡ more' t)
       → AllSame start f g (further x t asks) → after x t more n ≡ after x t more' n
-  onward_same Going t more more' asks n each h = each t h
-  onward_same (Halted stop r0) t more more' asks n each h = refl
+  onward_same None t more more' asks n each h = each t h
+  onward_same (Some halt) t more more' asks n each h = refl
 
   go_same : (left : ℕ) (program : List ℕ) (s : State) (n : ℕ) → AllSame start f g (asks_of left program f start s)
       → go_of left program f start s n ≡ go_of left program g start s n
@@ -157,9 +157,9 @@ module _ (start : ℕ) (f g : List ℕ) (long : length f ≡ length g) where
   go_same (suc left) program s n h =
       let a = act_at program f start s.regs s.pc in
       let more : State → Outcome = λ t. go_of left program g start t (n + 1) in
-      onward_same (turn_of a s).status (turn_of a s).state (λ t. go_of left program f start t (n + 1)) more (λ t. asks_of left program f start t) n
+      onward_same (turn_of a s).halt (turn_of a s).state (λ t. go_of left program f start t (n + 1)) more (λ t. asks_of left program f start t) n
       (λ t. go_same left program t (n + 1)) h.1
-      ∙ ap (λ (a : Act). after (turn_of a s).status (turn_of a s).state more n) (place_same program s h.0)
+      ∙ ap (λ (a : Act). after (turn_of a s).halt (turn_of a s).state more n) (place_same program s h.0)
 
   -- THEOREM: two frames of a length that hold the same where the run on the first asks have the same run: it reads nothing else of them.
   pub asks_are_all : (program : List ℕ) (budget : ℕ) → AllSame start f g (asks_of budget program f start first_state)

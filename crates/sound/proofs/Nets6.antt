@@ -14,8 +14,8 @@ use Rattle.patches.specs.Code.Slot.{fixed}
 use Rattle.pieces.specs.Fragments.{emit_load, fails, check}
 use Rattle.filter.specs.Prefix.{prefix_mask}
 use Rattle.filter.proofs.Masks.{mask_low}
-use Rattle.codegen.specs.Primitives.{segment, check_segment, check_net6, emit_net6}
-use Rattle.filter.specs.Ast.{net_offset}
+use Rattle.codegen.specs.Primitives.{check_segment, check_net6, emit_net6}
+use Rattle.filter.specs.Ast.{net_offset, segment_of, bytes_of}
 use Rattle.filter.specs.declared.ast.LinkType.{LinkType}
 use Rattle.filter.specs.declared.ast.Ipv6Addr.{Ipv6Addr}
 use Rattle.filter.specs.declared.ast.Dir.{Dir}
@@ -23,7 +23,7 @@ use Rattle.filter.specs.declared.ast.AccessSize.TheVariants.{Half}
 use Rattle.filter.specs.declared.ast.CmpOp.TheVariants.{Eq}
 use Rattle.checks.specs.Refusal.{ether_refusal}
 use Rattle.meaning.specs.Frame.{number, passes}
-use Rattle.meaning.specs.Meaning.{bytes_of, compared, covered, half_mask, half_of, halves, net6}
+use Rattle.meaning.specs.Meaning.{compared, covered, half_mask, halves, net6}
 use Rattle.program.specs.Ends.{Frame}
 use Rattle.sound.specs.Piece.{Tests, Means}
 use Rattle.sound.proofs.Pieces.{both, no_code, decides, by_direction}
@@ -34,8 +34,8 @@ use Rattle.filter.proofs.Links.{net_low}
 use Rattle.sound.proofs.Ethertypes.{ethertype_means}
 use Rattle.sound.proofs.Addresses.{masks, changed_field}
 
-pub half_low : (addr : Ipv6Addr) (i : ℕ) → half_of addr i < 65536
-unfolding half_of
+pub half_low : (addr : Ipv6Addr) (i : ℕ) → segment_of addr i < 65536
+unfolding segment_of
 half_low addr i = go (ltb i 4)
   where
     go : (high : Bool) → cond high (addr.hi / 2 ^ (16 * (3 - i)) % 65536) (addr.lo / 2 ^ (16 * (7 - i)) % 65536) < 65536
@@ -62,9 +62,9 @@ module _ {frame : List ℕ} {start : ℕ} (w : Frame frame start) (mode : ℕ) (
 
   half_means : (at i : ℕ) → at + 2 * i < 2 ^ 15
       → Tests frame start (check_segment mode link addr prefix at i)
-      (passes frame 2 (at + 2 * i) (λ h. eqb (bit_and h (half_mask prefix i)) (bit_and (half_of addr i) (half_mask prefix i))))
-  unfolding check_segment segment prefix_mask half_mask half_of covered
-  half_means at i m = half_as (leb (16 * i + 16) prefix) (prefix - 16 * i) (at + 2 * i) (half_of addr i) (half_low addr i) m
+      (passes frame 2 (at + 2 * i) (λ h. eqb (bit_and h (half_mask prefix i)) (bit_and (segment_of addr i) (half_mask prefix i))))
+  unfolding check_segment segment_of prefix_mask half_mask covered
+  half_means at i m = half_as (leb (16 * i + 16) prefix) (prefix - 16 * i) (at + 2 * i) (segment_of addr i) (half_low addr i) m
 
   -- n halves from half i on.
   halves_mean : (at n i : ℕ) → at + 2 * i + 2 * n < 2 ^ 15
@@ -75,7 +75,7 @@ module _ {frame : List ℕ} {start : ℕ} (w : Frame frame start) (mode : ℕ) (
     where
       go : (past-it : Bool) {ys : List Slot} {q : Bool} → Tests frame start ys q
           → Tests frame start (cond past-it [] (check_segment mode link addr prefix at i ++ ys))
-          (cond past-it true (passes frame 2 (at + 2 * i) (λ h. eqb (bit_and h (half_mask prefix i)) (bit_and (half_of addr i) (half_mask prefix i))) && q))
+          (cond past-it true (passes frame 2 (at + 2 * i) (λ h. eqb (bit_and h (half_mask prefix i)) (bit_and (segment_of addr i) (half_mask prefix i))) && q))
       go true more = no_code
       go false more = both (half_means at i (omega arith)) (λ t. more)
 

@@ -9,7 +9,7 @@ use borrow.Author.Tests.{le-ltb, ltb-false}
 use lib.Dec.{ltb}
 use lib.ListN.{length}
 use Rattle.ebpf.specs.declared.insn.Insn.{Insn}
-use Rattle.patches.specs.declared.Patched.TheVariants.{Done, TooFar}
+use Rattle.std.specs.Prelude.{Ok, Err}
 use Rattle.patches.specs.Chain.{reach}
 use Rattle.patches.specs.Code.{Slot, insn, successes, failures, with_off}
 use Rattle.patches.specs.Code.Slot.{fixed, success, failure}
@@ -153,11 +153,11 @@ module _ (target p d : ℕ) (ps : List ℕ) (leads : target ≡ suc p + d) where
   unfolding reach
   one_done l = let e : target - suc p ≡ d = omega arith in rw (e, le-ltb 32767 d (omega arith))
 
-  one_near : reach target (p ∷ ps) ≡ Done → (d < 2 ^ 15) × (reach target ps ≡ Done)
+  one_near : reach target (p ∷ ps) ≡ Ok tt → (d < 2 ^ 15) × (reach target ps ≡ Ok tt)
   unfolding reach
   one_near h = go (ltb 32767 (target - suc p)) refl h
     where
-      go : (far : Bool) → ltb 32767 (target - suc p) ≡ far → cond far TooFar (reach target ps) ≡ Done → (d < 2 ^ 15) × (reach target ps ≡ Done)
+      go : (far : Bool) → ltb 32767 (target - suc p) ≡ far → cond far (Err _) (reach target ps) ≡ (Ok _) → (d < 2 ^ 15) × (reach target ps ≡ (Ok _))
       go true e h = let z : ◌≡◌ {A = ℕ} 0 1 = cc h in absurd (omega arith)
       go false e h = let l = ltb-false 32767 (target - suc p) e in (omega arith, h)
 
@@ -201,8 +201,8 @@ module _ (target d : ℕ) where
       failures_done (p + 1) xs (p ∷ ps) (omega arith) n.1 ∙ one_done target p (past xs d) ps (omega arith) n.0
 
   -- and nowhere else;
-  pub successes_near : (p : ℕ) (xs : List Slot) (ps : List ℕ) → target ≡ p + past xs d → reach target (successes p xs ps) ≡ Done
-      → SuccessNear d xs × (reach target ps ≡ Done)
+  pub successes_near : (p : ℕ) (xs : List Slot) (ps : List ℕ) → target ≡ p + past xs d → reach target (successes p xs ps) ≡ Ok tt
+      → SuccessNear d xs × (reach target ps ≡ Ok tt)
   unfolding successes past
   successes_near p [] ps e h = (tt, h)
   successes_near p (fixed i ∷ xs) ps e h = successes_near (p + 1) xs ps (omega arith) h
@@ -212,8 +212,8 @@ module _ (target d : ℕ) where
       ((this.0, later.0), this.1)
   successes_near p (failure i ∷ xs) ps e h = successes_near (p + 1) xs ps (omega arith) h
 
-  pub failures_near : (p : ℕ) (xs : List Slot) (ps : List ℕ) → target ≡ p + past xs d → reach target (failures p xs ps) ≡ Done
-      → FailureNear d xs × (reach target ps ≡ Done)
+  pub failures_near : (p : ℕ) (xs : List Slot) (ps : List ℕ) → target ≡ p + past xs d → reach target (failures p xs ps) ≡ Ok tt
+      → FailureNear d xs × (reach target ps ≡ Ok tt)
   unfolding failures past
   failures_near p [] ps e h = (tt, h)
   failures_near p (fixed i ∷ xs) ps e h = failures_near (p + 1) xs ps (omega arith) h

@@ -7,6 +7,7 @@ use mathlib.Core.Option.{Option, none, some}
 use native.Mathlib.Omega.{arith}
 use lib.Dec.{eqb, leb}
 use lib.ListN.{length}
+use Rattle.filter.specs.Ast.{bytes_of}
 use Rattle.std.specs.Prelude as std
 use Rattle.filter.specs.declared.ast.Proto.{Proto}
 use Rattle.codegen.specs.Primitives.{check_port, check_ports, check_range, emit_port, emit_portrange}
@@ -17,7 +18,7 @@ use Rattle.filter.specs.declared.ast.AccessSize.TheVariants.{Half}
 use Rattle.filter.specs.declared.ast.CmpOp.TheVariants.{Eq, Le, Ge}
 use Rattle.checks.specs.Refusal.{port_refusal}
 use Rattle.meaning.specs.Frame.{number}
-use Rattle.meaning.specs.Meaning.{bytes_of, compared, directed, ports_at, ports}
+use Rattle.meaning.specs.Meaning.{compared, directed, ports_at, ports}
 use Rattle.program.specs.Ends.{Frame}
 use Rattle.sound.specs.Piece.{knows, nothing, falls, jumps, Piece, Means}
 use Rattle.sound.specs.Reads.{Reads}

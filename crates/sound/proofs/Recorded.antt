@@ -13,7 +13,7 @@ use Rattle.layers.proofs.Held.{run_holds}
 use Rattle.patches.specs.Listing.CompL.{made_l}
 use Rattle.generator.specs.Compile.{outcome_of, answer_of, output_after}
 use Rattle.generator.specs.Compile.Outcome.{late}
-use Rattle.generator.specs.declared.Compiled.TheVariants.{Program}
+use Rattle.refusals.specs.Refusal.Answer.{Given}
 use Rattle.sound.specs.Demand.{Bytes}
 use Rattle.sound.proofs.Accepted.{accepted}
 use Rattle.sound.proofs.Checked.{sheet_allowed}
@@ -29,7 +29,7 @@ pub record Recorded (s : List ℕ) (link mode work l : ℕ) (out : List ℕ) (ys
   pub made : outcome_of s link mode (length out) work ≡ late l tokens (made_l is)
   pub holds : filled_run (take (8 * l) (output_after (outcome_of s link mode (length out) work) out)) ys ≡ is ++ drop l ys
 
-pub records_hold_compiled : (s : List ℕ) (link mode work l : ℕ) (out : List ℕ) → Bytes s → answer_of (outcome_of s link mode (length out) work) ≡ Program l
+pub records_hold_compiled : (s : List ℕ) (link mode work l : ℕ) (out : List ℕ) → Bytes s → answer_of (outcome_of s link mode (length out) work) ≡ Given l
     → (ys : List Insn) → l ≤ length ys → Recorded s link mode work l out ys
 records_hold_compiled s link mode work l out byte compiles ys room =
     let v = accepted s link mode work l out byte compiles in

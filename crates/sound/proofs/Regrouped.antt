@@ -23,9 +23,9 @@ use Rattle.tree.proofs.Regroup.{same_jumps, same_tokens}
 use Rattle.checks.specs.Check.{check_of}
 use Rattle.checks.specs.Length.{sizes_of, program_length}
 use Rattle.checks.specs.Measure.{measured, measure_of, roomed, admit_of}
-use Rattle.checks.specs.declared.check.Checked.{Checked}
-use Rattle.checks.specs.declared.check.Checked.TheVariants as check
-use Rattle.checks.specs.declared.measure.Measured.TheVariants.{Refused, Length}
+use Rattle.refusals.specs.Refusal.{Answer}
+use Rattle.refusals.specs.Refusal.Answer.{Refused, Given}
+use Rattle.checks.specs.Measure.{asks}
 use Rattle.checks.proofs.Bounds.{good}
 use Rattle.checks.proofs.Regroup.{check_regroups}
 use Rattle.patches.specs.Listing.{CompL, compile_l}
@@ -37,13 +37,13 @@ use Rattle.sound.proofs.Checked.{whole_tree}
 
 -- Two sheets past refusals 1 to 6, with the same steps and the same primitives.
 pub record SameButTree (s s' : List ℕ) (link a b c c' : ℕ) : Type 0 where
-  pub checked : check_of s link ≡ check.Good a b c
-  pub checked' : check_of s' link ≡ check.Good a b c'
+  pub checked : check_of s link ≡ Given (counts a b c)
+  pub checked' : check_of s' link ≡ Given (counts a b c')
   pub steps : steps_part s' a ≡ steps_part s a
   pub prims : prims_part s' a b ≡ prims_part s a b
 
 -- The tokens of a checked sheet are as many as it says, and those of their tree.
-module _ (s : List ℕ) (link a b c : ℕ) (e : check_of s link ≡ check.Good a b c) where
+module _ (s : List ℕ) (link a b c : ℕ) (e : check_of s link ≡ Given (counts a b c)) where
   tokens_are : length (tokens_part s a b c) ≡ c
   unfolding tokens_part
   tokens_are =
@@ -69,14 +69,14 @@ module _ (s : List ℕ) (link a b c : ℕ) (e : check_of s link ≡ check.Good a
 abbrev unless178 : Bool → Bool → Bool → Outcome → Outcome
 unless178 x y z r = cond x (early 1 0) (cond y (early 7 0) (cond z (early 8 0) r))
 
-outcome_is : (s : List ℕ) (link mode output work a b c : ℕ) → check_of s link ≡ check.Good a b c
+outcome_is : (s : List ℕ) (link mode output work a b c : ℕ) → check_of s link ≡ Given (counts a b c)
     → (l : ℕ) → l ≡ program_length (link_of link) (steps_part s a) (prims_part s a b) (tokens_part s a b c) b c
     → outcome_of s link mode output work ≡ unless178 (ltb 1 mode) (ltb output (8 * l)) (ltb work (l + 8 * c))
     (late l c (compile_l (template mode (link_of link) (steps_part s a) (prims_part s a b)) (tree_of (tokens_part s a b c))))
 unfolding outcome_of outcome admit_of roomed measure_of measured
 outcome_is s link mode output work a b c e l le = rw (e, ← le) (go (ltb 1 mode) (ltb output (8 * l)) (ltb work (l + 8 * c)))
   where
-    go : (x y z : Bool) → outcome (cond x (Refused 1 0) (cond y (Refused 7 0) (cond z (Refused 8 0) (Length a b c l)))) s link mode
+    go : (x y z : Bool) → outcome (cond x (Refused 1 0) (cond y (Refused 7 0) (cond z (Refused 8 0) (Given (asks (counts a b c) l))))) s link mode
         ≡ unless178 x y z (late l c (compile_l (template mode (link_of link) (steps_part s a) (prims_part s a b)) (tree_of (tokens_part s a b c))))
     go true y z = refl
     go false true z = refl
@@ -90,7 +90,7 @@ pub regrouped_sheets : (s s' : List ℕ) (link a b c c' : ℕ) → SameButTree s
 regrouped_sheets s s' link a b c c' v r mode output work =
     outcome_is s link mode output work a b c v.checked l refl
     ∙ ap (λ (n : ℕ). result n c (tree_of (tokens_part s a b c))) lengths
-    ∙ ap (λ (n : ℕ). result l' n (tree_of (tokens_part s a b c))) counts
+    ∙ ap (λ (n : ℕ). result l' n (tree_of (tokens_part s a b c))) same_count
     ∙ ap room (compile_regroups (template mode (link_of link) steps prims) r)
     ∙ ap (λ (x : List ℕ). room (compile_l (template mode (link_of link) x prims) (tree_of (tokens_part s' a b c')))) (sym v.steps)
     ∙ ap (λ (x : List ℕ). room (compile_l (template mode (link_of link) (steps_part s' a) x) (tree_of (tokens_part s' a b c')))) (sym v.prims)
@@ -114,8 +114,8 @@ regrouped_sheets s s' link a b c c' v r mode output work =
     room : CompL → Outcome
     room x = unless178 (ltb 1 mode) (ltb output (8 * l')) (ltb work (l' + 8 * c')) (late l' c' x)
 
-    counts : c ≡ c'
-    counts = count_is s link a b c v.checked ∙ same_tokens r ∙ sym (count_is s' link a b c' v.checked')
+    same_count : c ≡ c'
+    same_count = count_is s link a b c v.checked ∙ same_tokens r ∙ sym (count_is s' link a b c' v.checked')
 
     lengths : l ≡ l'
     lengths =
@@ -126,7 +126,7 @@ regrouped_sheets s s' link a b c c' v r mode output work =
         ∙ ap (λ (x : List ℕ). program_length (link_of link) (steps_part s' a) x (tokens_part s' a b c') b c') (sym v.prims)
 
 -- A sheet that is refused 1 to 6.
-refused_is : (s : List ℕ) (link mode output work n p : ℕ) → check_of s link ≡ check.Refused n p → outcome_of s link mode output work ≡ cond (ltb 1 mode) (early 1 0) (early n p)
+refused_is : (s : List ℕ) (link mode output work n p : ℕ) → check_of s link ≡ Refused n p → outcome_of s link mode output work ≡ cond (ltb 1 mode) (early 1 0) (early n p)
 unfolding outcome_of outcome admit_of roomed measure_of measured
 refused_is s link mode output work n p e = rw e (go (ltb 1 mode))
   where
@@ -135,16 +135,16 @@ refused_is s link mode output work n p e = rw e (go (ltb 1 mode))
     go false = refl
 
 -- The counts that a check gives are those written.
-written_good : (front : List ℕ) → Front front → (tokens : List ℕ) (link a b c : ℕ) → check_of (written front tokens) link ≡ check.Good a b c
-    → check_of (written front tokens) link ≡ check.Good (step_count front) (prim_count front) (length tokens)
+written_good : (front : List ℕ) → Front front → (tokens : List ℕ) (link a b c : ℕ) → check_of (written front tokens) link ≡ Given (counts a b c)
+    → check_of (written front tokens) link ≡ Given (counts (step_count front) (prim_count front) (length tokens))
 written_good front whole tokens link a b c e =
     let f : Some (counts a b c) ≡ Some (counts (step_count front) (prim_count front) (length tokens)) = sym (good (written front tokens) link e).found ∙ written_sections front whole tokens in
     let n : counts a b c ≡ counts (step_count front) (prim_count front) (length tokens) = cc in
-    e ∙ ap (λ (k : Counts). check.Good k.steps k.prims k.tokens) n
+    e ∙ ap (λ (k : Counts). Given k) n
 
 -- Two sheets written with the same steps and primitives, past refusals 1 to 6.
 pub same_but_tree : (front : List ℕ) → Front front → (ts us : List ℕ) (link a b c a' b' c' : ℕ)
-    → check_of (written front ts) link ≡ check.Good a b c → check_of (written front us) link ≡ check.Good a' b' c'
+    → check_of (written front ts) link ≡ Given (counts a b c) → check_of (written front us) link ≡ Given (counts a' b' c')
     → SameButTree (written front ts) (written front us) link (step_count front) (prim_count front) (length ts) (length us)
 same_but_tree front whole ts us link a b c a' b' c' e e' =
     record {
@@ -169,10 +169,10 @@ written_regroups front whole {t} {u} r link mode output work = go (check_of s li
     s' : List ℕ
     s' = written front (flat u)
 
-    go : (x : Checked) → check_of s link ≡ x → outcome_of s link mode output work ≡ outcome_of s' link mode output work
-    go (check.Refused n p) e =
+    go : (x : Answer Counts) → check_of s link ≡ x → outcome_of s link mode output work ≡ outcome_of s' link mode output work
+    go (Refused n p) e =
         refused_is s link mode output work n p e ∙ sym (refused_is s' link mode output work n p (sym (check_regroups front whole r link) ∙ e))
-    go (check.Good a b c) e =
+    go (Given n) e =
         regrouped_sheets s s' link (step_count front) (prim_count front) (length (flat t)) (length (flat u))
-        (same_but_tree front whole (flat t) (flat u) link a b c a b c e (sym (check_regroups front whole r link) ∙ e))
+        (same_but_tree front whole (flat t) (flat u) link n.steps n.prims n.tokens n.steps n.prims n.tokens e (sym (check_regroups front whole r link) ∙ e))
         (rw (written_tree front whole t, written_tree front whole u) r) mode output work

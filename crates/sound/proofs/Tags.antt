@@ -17,14 +17,14 @@ use Rattle.patches.specs.Code.{Slot}
 use Rattle.patches.specs.Code.Slot.{fixed}
 use Rattle.pieces.specs.Fragments.{emit_load, emit_cmp, fails, skips}
 use Rattle.codegen.specs.Primitives.{emit_ether_multicast, emit_ip_broadcast, emit_ip_multicast, emit_ip6_multicast, vlan_id, emit_vlan, mpls_at, emit_mpls, session_id, emit_pppoe_session, emit_len}
-use Rattle.filter.specs.Ast.{ether_proto_offset, net_offset}
+use Rattle.filter.specs.Ast.{ether_proto_offset, net_offset, bytes_of}
 use Rattle.filter.specs.declared.ast.LinkType.{LinkType}
 use Rattle.filter.specs.declared.ast.AccessSize.TheVariants.{Byte, Half, Word}
 use Rattle.filter.specs.declared.ast.CmpOp.{CmpOp}
 use Rattle.filter.specs.declared.ast.CmpOp.TheVariants.{Eq, BitAnd}
 use Rattle.checks.specs.Refusal.{etherless, unless_ether, ether_refusal}
 use Rattle.meaning.specs.Frame.{there, number, passes}
-use Rattle.meaning.specs.Meaning.{bytes_of, compared, ethertype_at, ethertype, tagged_at, tagged, ip, ip6, vlan, mpls, pppoe}
+use Rattle.meaning.specs.Meaning.{compared, ethertype_at, ethertype, tagged_at, tagged, ip, ip6, vlan, mpls, pppoe}
 use Rattle.program.specs.Kinds.{rsh32}
 use Rattle.program.specs.Ends.{Frame}
 use Rattle.program.proofs.Registers.{r2, r3, r4}

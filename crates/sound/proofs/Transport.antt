@@ -18,13 +18,13 @@ use Rattle.ebpf.specs.Alu.{alu32}
 use Rattle.patches.specs.Code.Slot.{fixed}
 use Rattle.pieces.specs.Fragments.{past, transport, fails}
 use Rattle.codegen.specs.Primitives.{emit_l4_proto_check, prereqs_v4, prereqs_v6, emit_port_prereqs}
-use Rattle.filter.specs.Ast.{ether_proto_offset, net_offset}
+use Rattle.filter.specs.Ast.{ether_proto_offset, net_offset, bytes_of}
 use Rattle.filter.specs.declared.ast.LinkType.{LinkType}
 use Rattle.filter.specs.declared.ast.AccessSize.TheVariants.{Byte, Half}
 use Rattle.filter.specs.declared.ast.Proto.TheVariants.{Ip, Ip6, Arp, Rarp, Tcp, Udp, Icmp, Icmp6, Igmp, Sctp, Num, Ip6Proto}
 use Rattle.checks.specs.Refusal.{port_refusal, l4_refusal}
 use Rattle.meaning.specs.Frame.{there, number, passes}
-use Rattle.meaning.specs.Meaning.{bytes_of, l4, given, ethertype, ip, ip6, start4, start6}
+use Rattle.meaning.specs.Meaning.{l4, given, ethertype, ip, ip6, start4, start6}
 use Rattle.program.specs.Kinds.{and32, lsh32}
 use Rattle.program.specs.Ends.{Frame}
 use Rattle.program.proofs.Registers.{r2, r4, r6}

@@ -1,5 +1,5 @@
 -- What a run asks of memory, and what is inside: "reads nothing outside the frame but its two context words".
-use Rattle.std.specs.Prelude.{ℕ, zero, suc, ◌+◌, ◌-◌, ◌*◌, ◌/◌, ◌%◌, ◌^◌, ◌≤◌, ◌≡◌, ◌⊎◌, cond, List, [], ◌∷◌, length, ltb}
+use Rattle.std.specs.Prelude.{ℕ, zero, suc, ◌+◌, ◌-◌, ◌*◌, ◌/◌, ◌%◌, ◌^◌, ◌≤◌, ◌≡◌, ◌⊎◌, cond, Option, Some, None, List, [], ◌∷◌, length, ltb}
 use Rattle.ebpf.specs.Insn.{insn_at}
 use Rattle.ebpf.specs.Alu.{sext16}
 use Rattle.ebpf.specs.Form.{Form, NotOurs, Context, Load, Reg64, Imm64, Imm32, Swap, Jump, Branch, BranchReg, Exit, form_of}
@@ -7,8 +7,7 @@ use Rattle.ebpf.specs.Regs.{value_of}
 use Rattle.ebpf.specs.Step.{le_at, step_of}
 use Rattle.ebpf.specs.declared.regs.Regs.{Regs}
 use Rattle.ebpf.specs.declared.step.State.{State}
-use Rattle.ebpf.specs.declared.step.Status.{Status}
-use Rattle.ebpf.specs.declared.step.Status.TheVariants.{Going, Halted}
+use Rattle.ebpf.specs.declared.act.Halt.{Halt}
 
 -- What one instruction asks for: nothing, a word of the context at an offset from R1, or so many bytes from an address on.
 pub data Ask : Type 0 where
@@ -35,15 +34,15 @@ unfoldable pub ask_at : List ℕ → State → Ask
 ask_at program s = cond (ltb s.pc (length program / 8)) (ask_of (form_of (insn_at program (s.pc * 8))) s.regs) nothing
 
 -- A step that goes on hands its state to what follows.
-abbrev pub further : Status → State → (State → List Ask) → List Ask
-further Going t more = more t
-further (Halted stop r0) t more = []
+abbrev pub further : Option Halt → State → (State → List Ask) → List Ask
+further None t more = more t
+further (Some halt) t more = []
 
 -- All that a run asks for from the state s on, in order, in its first k steps.
 unfoldable pub asks_of : ℕ → List ℕ → List ℕ → ℕ → State → List Ask
 asks_of zero program frame start s = []
 asks_of (suc k) program frame start s =
-    ask_at program s ∷ further (step_of program frame start s).status (step_of program frame start s).state (λ t. asks_of k program frame start t)
+    ask_at program s ∷ further (step_of program frame start s).halt (step_of program frame start s).state (λ t. asks_of k program frame start t)
 
 -- In the frame, which lies at `start`; or one of the "two context words", at 0 and at 4.
 abbrev pub Inside : List ℕ → ℕ → Ask → Type 0

@@ -5,8 +5,8 @@ use Rattle.bromaveluth.proofs.asked.Goals as goal
 
 pub returns-then-mode-gt1 : goal.returns-then-mode-gt1
 unfolding asked_of
-returns-then-mode-gt1 c = rw (lt-ltb _ _ c.if-mode-gt1.true)
+returns-then-mode-gt1 c = rw (lt-ltb _ _ c.if-mode-gt1.true, c.at.ensures)
 
-pub returns-else-mode-gt1 : goal.returns-else-mode-gt1
+pub returns : goal.returns
 unfolding asked_of
-returns-else-mode-gt1 c = rw (le-ltb _ _ c.if-mode-gt1.false) c.measure.ensures
+returns c = rw (le-ltb _ _ c.if-mode-gt1.false) c.measure.ensures

@@ -1,7 +1,7 @@
 -- What the callee answers, told.
 use mathlib.Core.Path.{ap, ◌∙◌}
-use Rattle.bromaveluth.specs.Boundary.{captured_status, passed_count, dropped_count, cut_count, captured_number}
+use Rattle.bromaveluth.specs.Boundary.{status, passed_count, dropped_count, cut_count, captured_number}
 use Rattle.bromaveluth.proofs.bromaveluth_capture.Goals as goal
 
 pub returns : goal.returns
-returns c = record { value = c.tell.ensures.value ∙ ap captured_status c.capture.ensures.value; passed_after = c.tell.ensures.passed_after ∙ ap passed_count c.capture.ensures.value; dropped_after = c.tell.ensures.dropped_after ∙ ap dropped_count c.capture.ensures.value; cut_after = c.tell.ensures.cut_after ∙ ap cut_count c.capture.ensures.value; answer_after = c.tell.ensures.answer_after ∙ ap captured_number c.capture.ensures.value; output_after = c.capture.ensures.output_after; work_after = c.capture.ensures.work_after }
+returns c = record { value = c.tell.ensures.value ∙ ap status c.capture.ensures.value; passed_after = c.tell.ensures.passed_after ∙ ap passed_count c.capture.ensures.value; dropped_after = c.tell.ensures.dropped_after ∙ ap dropped_count c.capture.ensures.value; cut_after = c.tell.ensures.cut_after ∙ ap cut_count c.capture.ensures.value; answer_after = c.tell.ensures.answer_after ∙ ap captured_number c.capture.ensures.value; output_after = c.capture.ensures.output_after; work_after = c.capture.ensures.work_after }

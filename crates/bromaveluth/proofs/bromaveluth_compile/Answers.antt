@@ -1,16 +1,12 @@
 -- The refusal and its place, or 0 and L; output and work are as `compile` leaves them.
-use mathlib.Core.Path.{refl, sym, ◌∙◌}
-use Rattle.bromaveluth.specs.Boundary.{compiled_status, compiled_number}
+use Rattle.std.proofs.Common.{refl}
+use Rattle.bromaveluth.specs.Boundary.{status, compiled_number}
 use Rattle.bromaveluth.proofs.bromaveluth_compile.Goals as goal
 
-pub returns-in-Refused : goal.returns-in-Refused
-unfolding compiled_status compiled_number
-returns-in-Refused c =
-    let m = sym c.compile.ensures.value ∙ c.in-Refused.is in
-    record { value = rw m refl; answer_after = rw m refl; output_after = c.compile.ensures.output_after; work_after = c.compile.ensures.work_after }
+pub returns-in-Ok : goal.returns-in-Ok
+unfolding status compiled_number
+returns-in-Ok c = record { value = rw (← c.in-Ok.ensures.value) refl; answer_after = rw (← c.in-Ok.ensures.value) refl; output_after = c.in-Ok.ensures.output_after; work_after = c.in-Ok.ensures.work_after }
 
-pub returns-in-Program : goal.returns-in-Program
-unfolding compiled_status compiled_number
-returns-in-Program c =
-    let m = sym c.compile.ensures.value ∙ c.in-Program.is in
-    record { value = rw m refl; answer_after = rw m refl; output_after = c.compile.ensures.output_after; work_after = c.compile.ensures.work_after }
+pub returns-in-Err : goal.returns-in-Err
+unfolding status compiled_number
+returns-in-Err c = record { value = rw (← c.in-Err.ensures.value) c.refuse.ensures.value; answer_after = rw (← c.in-Err.ensures.value) c.refuse.ensures.answer_after; output_after = c.in-Err.ensures.output_after; work_after = c.in-Err.ensures.work_after }

@@ -1,16 +1,12 @@
 -- The refusal and its place, or 0 and the new sheet's length; the output is as `push_nots` leaves it.
-use mathlib.Core.Path.{refl, sym, ◌∙◌}
-use Rattle.bromaveluth.specs.Boundary.{pushed_status, pushed_number}
+use Rattle.std.proofs.Common.{refl}
+use Rattle.bromaveluth.specs.Boundary.{status, pushed_number}
 use Rattle.bromaveluth.proofs.bromaveluth_nots.Goals as goal
 
-pub returns-in-Refused : goal.returns-in-Refused
-unfolding pushed_status pushed_number
-returns-in-Refused c =
-    let m = sym c.push_nots.ensures.value ∙ c.in-Refused.is in
-    record { value = rw m refl; answer_after = rw m refl; output_after = c.push_nots.ensures.output_after }
+pub returns-in-Ok : goal.returns-in-Ok
+unfolding status pushed_number
+returns-in-Ok c = record { value = rw (← c.in-Ok.ensures.value) refl; answer_after = rw (← c.in-Ok.ensures.value) refl; output_after = c.in-Ok.ensures.output_after }
 
-pub returns-in-Length : goal.returns-in-Length
-unfolding pushed_status pushed_number
-returns-in-Length c =
-    let m = sym c.push_nots.ensures.value ∙ c.in-Length.is in
-    record { value = rw m refl; answer_after = rw m refl; output_after = c.push_nots.ensures.output_after }
+pub returns-in-Err : goal.returns-in-Err
+unfolding status pushed_number
+returns-in-Err c = record { value = rw (← c.in-Err.ensures.value) c.refuse.ensures.value; answer_after = rw (← c.in-Err.ensures.value) c.refuse.ensures.answer_after; output_after = c.in-Err.ensures.output_after }

@@ -1,92 +1,94 @@
-use mathlib.Core.Path.{sym, subst}
-use native.Mathlib.Omega.{arith}
-use Rattle.patches.specs.Machine.{Tpl, size_of, LeafOk}
-use Rattle.patches.specs.Rel.{SomeLeaf}
-use Rattle.generator.proofs.Walks.{walk_begins, walk_operator, read, leaf_room, walk_waits, walk_ends, walk_stops, walk_out}
+use Rattle.std.proofs.Common.{◌≡◌, ap, ◌∙◌, arith, get_or, rules, Ok, Err}
+use Rattle.patches.specs.Code.{Setting, emission}
+use Rattle.generator.proofs.Walks.{walk_begins, walk_operator, read, room_for, walk_waits, walk_ends, walk_stops, walk_out}
 use Rattle.generator.proofs.emit_expr.Goals as goal
 
--- the clauses, each by its name
-of_triple_walk_ok : {A B C : Type 0} → A × (B × C) → record { walk_ok : A; same_from : B; same_from_2 : C }
-of_triple_walk_ok p = record { walk_ok = p.0; same_from = p.1.0; same_from_2 = p.1.1 }
-
-pub loop-i-init : goal.loop-i-init
-loop-i-init c =
-    let a = c.args in let p = c.requires.tokens_bound in
-    walk_begins a.mode a.link a.steps.now a.prims.now a.tokens.now a.l a.out.now a.work.now c.requires.descends p.0 p.1 p.2 p.3 p.4
-
-pub bounds-tokens-i : goal.bounds-tokens-i
-bounds-tokens-i c = omega arith
-
-pub overflow_add-i : goal.overflow_add-i
-overflow_add-i c = omega arith
-
-pub overflow_mul-n : goal.overflow_mul-n
-overflow_mul-n c = omega (arith, c.loop-i.invariant.room, c.loop-i.invariant.n_in)
-
-pub overflow_add-l : goal.overflow_add-l
-overflow_add-l c = omega (arith, c.loop-i.invariant.room, c.loop-i.invariant.n_in)
-
-pub token-requires : goal.token-requires
-token-requires c = tt
+pub loop-t-init : goal.loop-t-init
+unfolding emission
+loop-t-init c =
+    let a = c.args in
+    let b = a.code.now in
+    let q = c.requires.tokens_bound in
+    walk_begins b.mode b.link a.parts.steps.now a.parts.prims.now a.parts.tokens.now a.l (emission b) c.requires.begun c.requires.descends q.0 q.1 q.2 q.3 q.4
 
 pub save-requires : goal.save-requires
-save-requires c = omega (arith, c.loop-i.invariant.room, c.loop-i.invariant.n_in)
+unfolding emission
+save-requires c = omega (arith, c.loop-t.invariant.room, c.loop-t.invariant.n_in, c.loop-t-test.true)
 
-pub overflow_add-n : goal.overflow_add-n
-overflow_add-n c = omega (arith, c.loop-i.invariant.room, c.loop-i.invariant.n_in)
-
-pub loop-i-smaller-then-t-ne0 : goal.loop-i-smaller-then-t-ne0
-loop-i-smaller-then-t-ne0 c = omega arith
-
-pub loop-i-preserved-then-t-ne0 : goal.loop-i-preserved-then-t-ne0
-loop-i-preserved-then-t-ne0 c =
-    let a = c.args in let p = c.loop-i in walk_operator a.mode a.link a.steps.now a.prims.now a.tokens.now a.l a.out.now a.work.now p.invariant c.loop-i-test.true c.if-t-ne0.true
-    c.save.new.work c.save.auto.work (rw c.token.ensures at c.save.ensures)
-
-pub primitive_at-prim-requires : goal.primitive_at-prim-requires
-primitive_at-prim-requires c = tt
+pub loop-t-preserved-then-t-ne0 : goal.loop-t-preserved-then-t-ne0
+unfolding emission
+loop-t-preserved-then-t-ne0 c =
+    let a = c.args in
+    let b = a.code.now in
+    let y₀ = emission b in
+    let p = c.loop-t in
+    let v = p.invariant in
+    walk_operator b.mode b.link a.parts.steps.now a.parts.prims.now a.parts.tokens.now a.l y₀ v c.loop-t-test.true c.if-t-ne0.true (emission c.save.new.self) c.save.ensures
 
 pub emit_operand-requires : goal.emit_operand-requires
+unfolding emission
 emit_operand-requires c =
-    let a = c.args in let p = c.loop-i in let v = p.invariant in
-    let q = read a.mode a.link a.steps.now a.prims.now a.tokens.now a.l a.out.now a.work.now v c.primitive_at-prim.result c.primitive_at-prim.ensures in
+    let a = c.args in
+    let b = a.code.now in
+    let y₀ = emission b in
+    let p = c.loop-t in
+    let v = p.invariant in
+    let q = read b.mode b.link a.parts.steps.now a.parts.prims.now a.parts.tokens.now a.l y₀ v p.code.mode p.code.link (ap (λ (s : Setting). s.mode) v.kept.setting) (ap (λ (s : Setting). s.link) v.kept.setting) _ c.primitive_at.ensures in
+    let zero : get_or a.parts.tokens.now p.t-index 0 ≡ 0 = c.if-t-ne0.false in
     record {
-      some_leaf = subst (λ (t : Tpl). SomeLeaf a.l p.work p.n p.st (size_of t)) (sym q)
-          (leaf_room a.mode a.link a.steps.now a.prims.now a.tokens.now a.l a.out.now a.work.now v c.loop-i-test.true c.if-t-ne0.false);
+      some_leaf = room_for b.mode b.link a.parts.steps.now a.parts.prims.now a.parts.tokens.now a.l y₀ v c.loop-t-test.true zero _ q;
       l_in_bounds = (v.bytes, v.short);
     }
 
-pub takes_steps-requires : goal.takes_steps-requires
-takes_steps-requires c = tt
+pub loop-t-preserved : goal.loop-t-preserved
+unfolding emission
+loop-t-preserved c =
+    let a = c.args in
+    let b = a.code.now in
+    let y₀ = emission b in
+    let p = c.loop-t in
+    let v = p.invariant in
+    let q = read b.mode b.link a.parts.steps.now a.parts.prims.now a.parts.tokens.now a.l y₀ v p.code.mode p.code.link (ap (λ (s : Setting). s.mode) v.kept.setting) (ap (λ (s : Setting). s.link) v.kept.setting) _ c.primitive_at.ensures in
+    let zero : get_or a.parts.tokens.now p.t-index 0 ≡ 0 = c.if-t-ne0.false in
+    let k = c.emit_operand.ensures in
+    walk_waits b.mode b.link a.parts.steps.now a.parts.prims.now a.parts.tokens.now a.l y₀ v c.loop-t-test.true zero _ q _ (emission c.emit_operand.new.code) k.leaf_ok k.kept k.same_from k.same_from_2
+    _ c.in_ok-n.was c.if-n-eq0.false _ c.takes_steps.ensures (omega arith)
 
-pub overflow_add-from : goal.overflow_add-from
-overflow_add-from c = omega (arith, c.loop-i.invariant.from_in, c.loop-i.invariant.k_in, c.loop-i.invariant.i_in, c.loop-i.invariant.few)
+pub returns-then-n-eq0 : goal.returns-then-n-eq0
+unfolding emission
+returns-then-n-eq0 c =
+    let a = c.args in
+    let b = a.code.now in
+    let y₀ = emission b in
+    let p = c.loop-t in
+    let v = p.invariant in
+    let q = read b.mode b.link a.parts.steps.now a.parts.prims.now a.parts.tokens.now a.l y₀ v p.code.mode p.code.link (ap (λ (s : Setting). s.mode) v.kept.setting) (ap (λ (s : Setting). s.link) v.kept.setting) _ c.primitive_at.ensures in
+    let zero : get_or a.parts.tokens.now p.t-index 0 ≡ 0 = c.if-t-ne0.false in
+    let k = c.emit_operand.ensures in
+    walk_ends b.mode b.link a.parts.steps.now a.parts.prims.now a.parts.tokens.now a.l y₀ v c.loop-t-test.true zero _ q _ (emission c.emit_operand.new.code) k.leaf_ok k.kept k.same_from k.same_from_2
+    (c.in_ok-n.was ∙ ap Ok c.if-n-eq0.true)
 
-pub overflow_add-k : goal.overflow_add-k
-overflow_add-k c = omega (arith, c.loop-i.invariant.k_in, c.loop-i.invariant.i_in, c.loop-i.invariant.few)
-
-pub loop-i-smaller : goal.loop-i-smaller
-loop-i-smaller c = omega (arith, c.loop-i-test.true)
-
-pub loop-i-preserved : goal.loop-i-preserved
-loop-i-preserved c =
-    let a = c.args in let p = c.loop-i in let v = p.invariant in let q = read a.mode a.link a.steps.now a.prims.now a.tokens.now a.l a.out.now a.work.now v c.primitive_at-prim.result c.primitive_at-prim.ensures in
-    walk_waits a.mode a.link a.steps.now a.prims.now a.tokens.now a.l a.out.now a.work.now v c.loop-i-test.true c.if-t-ne0.false
-    c.emit_operand.result c.emit_operand.new.out c.emit_operand.new.work (subst (λ (t : Tpl). LeafOk a.l p.n p.k t p.out p.work p.st c.emit_operand.result c.emit_operand.new.out c.emit_operand.new.work) q c.emit_operand.ensures.leaf_ok) c.emit_operand.ensures.same_from c.emit_operand.ensures.same_from_2
-    c.emit_operand.auto.out c.emit_operand.auto.work _ _ c.in-Wait.is _ c.takes_steps.ensures (omega arith)
-
-pub returns-in-Whole : goal.returns-in-Whole
-returns-in-Whole c = of_triple_walk_ok (let a = c.args in let p = c.loop-i in let v = p.invariant in let q = read a.mode a.link a.steps.now a.prims.now a.tokens.now a.l a.out.now a.work.now v c.primitive_at-prim.result c.primitive_at-prim.ensures in
-    walk_ends a.mode a.link a.steps.now a.prims.now a.tokens.now a.l a.out.now a.work.now v c.loop-i-test.true c.if-t-ne0.false
-    c.emit_operand.result c.emit_operand.new.out c.emit_operand.new.work (subst (λ (t : Tpl). LeafOk a.l p.n p.k t p.out p.work p.st c.emit_operand.result c.emit_operand.new.out c.emit_operand.new.work) q c.emit_operand.ensures.leaf_ok) c.emit_operand.ensures.same_from c.emit_operand.ensures.same_from_2
-    _ c.in-Whole.is)
-
-pub returns-in-Refused : goal.returns-in-Refused
-returns-in-Refused c = of_triple_walk_ok (let a = c.args in let p = c.loop-i in let v = p.invariant in let q = read a.mode a.link a.steps.now a.prims.now a.tokens.now a.l a.out.now a.work.now v c.primitive_at-prim.result c.primitive_at-prim.ensures in
-    walk_stops a.mode a.link a.steps.now a.prims.now a.tokens.now a.l a.out.now a.work.now v c.loop-i-test.true c.if-t-ne0.false
-    c.emit_operand.result c.emit_operand.new.out c.emit_operand.new.work (subst (λ (t : Tpl). LeafOk a.l p.n p.k t p.out p.work p.st c.emit_operand.result c.emit_operand.new.out c.emit_operand.new.work) q c.emit_operand.ensures.leaf_ok) c.emit_operand.ensures.same_from c.emit_operand.ensures.same_from_2
-    _ _ c.in-Refused.is)
+pub returns-in_err-n : goal.returns-in_err-n
+unfolding emission
+returns-in_err-n c =
+    let a = c.args in
+    let b = a.code.now in
+    let y₀ = emission b in
+    let p = c.loop-t in
+    let v = p.invariant in
+    let q = read b.mode b.link a.parts.steps.now a.parts.prims.now a.parts.tokens.now a.l y₀ v p.code.mode p.code.link (ap (λ (s : Setting). s.mode) v.kept.setting) (ap (λ (s : Setting). s.link) v.kept.setting) _ c.primitive_at.ensures in
+    let zero : get_or a.parts.tokens.now p.t-index 0 ≡ 0 = c.if-t-ne0.false in
+    let k = c.emit_operand.ensures in
+    let e : c.from_residual.result ≡ Err c.in_err-n.field-0.0 = search rules in
+    let w = walk_stops b.mode b.link a.parts.steps.now a.parts.prims.now a.parts.tokens.now a.l y₀ v c.loop-t-test.true zero _ q _ (emission c.emit_operand.new.code) k.leaf_ok k.kept k.same_from k.same_from_2 _ c.in_err-n.was in
+    record { walk_ok = rw e w.walk_ok; kept = w.kept; same_from = w.same_from; same_from_2 = w.same_from_2 }
 
 pub returns : goal.returns
-returns c = of_triple_walk_ok (let a = c.args in let p = c.loop-i in
-    walk_out a.mode a.link a.steps.now a.prims.now a.tokens.now a.l a.out.now a.work.now p.invariant (omega arith))
+unfolding emission
+returns c =
+    let a = c.args in
+    let b = a.code.now in
+    let y₀ = emission b in
+    let p = c.loop-t in
+    let v = p.invariant in
+    rw c.at.ensures (walk_out b.mode b.link a.parts.steps.now a.parts.prims.now a.parts.tokens.now a.l y₀ v (omega arith))

@@ -1,12 +1,7 @@
 -- One token after the other, by the laws of Walks.
-use Prim.Native.Nat.{◌-◌}
-use lib.ListN.{length}
+use Rattle.patches.specs.Code.{emission}
 use Rattle.generator.proofs.Walks.{Walking}
 use Rattle.generator.proofs.emit_expr.Given as goal
 
-abbrev pub invariant-loop-i : goal.invariant-loop-i
-invariant-loop-i l =
-    Walking l.mode l.link l.steps l.prims l.tokens l.l l.initial.out l.initial.work l.none l.out l.work l.st l.n l.i l.k l.from
-
-abbrev pub decreases-loop-i : goal.decreases-loop-i
-decreases-loop-i l = length l.tokens - l.i
+abbrev pub invariant-loop-t : goal.invariant-loop-t
+invariant-loop-t l = Walking l.initial.code.mode l.initial.code.link l.parts.steps.now l.parts.prims.now l.parts.tokens.now l.l (emission l.initial.code) (emission l.code) l.n l.t-index l.k l.from

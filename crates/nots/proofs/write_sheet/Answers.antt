@@ -1,16 +1,13 @@
 -- The stores one after another are the new sheet.
+use Rattle.std.proofs.Common.{◌++◌, ap, drop}
+use mathlib.Core.List.{List}
+use Prim.Native.Nat.{ℕ}
 use Rattle.nots.specs.Turn.{wanted_at}
 use Rattle.nots.proofs.Writes.{written_out}
-use native.Mathlib.Omega.{arith}
-use lib.ListN.{length-set}
 use Rattle.nots.proofs.write_sheet.Goals as goal
 
-pub bounds-output-front-2 : goal.bounds-output-front-2
-bounds-output-front-2 c = simp length-set (omega (arith, c.copy_front.auto.output, c.requires.size_in_bounds))
-
-pub wanted-requires : goal.wanted-requires
-wanted-requires c = record { begins = c.requires.begins.0; at_in_bounds = simp length-set (omega (arith, c.copy_front.auto.output, c.requires.begins.1, c.requires.size_in_bounds)) }
-
 pub returns : goal.returns
-returns c = let a = c.args in
-    written_out a.sheet.now a.output.now a.front a.size (wanted_at a.tokens.now 0) c.requires.front_in_bounds.0 c.requires.begins.1 c.requires.size_in_bounds c.copy_front.ensures c.wanted.ensures.output_after
+returns c =
+    let a = c.args in
+    let copied = ap (λ (l : List ℕ). l ++ drop a.front a.output.now) c.copy_from_slice.ensures.after in
+    written_out a.sheet.now a.output.now a.front a.size (wanted_at a.tokens.now 0) c.requires.front_in_bounds.0 c.requires.begins.1 c.requires.size_in_bounds copied c.wanted.ensures.output_after

@@ -1,11 +1,7 @@
 -- `set_link` sets one number, and none past the end, as `set` does.
-use native.Mathlib.Omega.{arith}
-use mathlib.Core.Path.{sym}
+use Rattle.std.proofs.Common.{arith, sym}
 use lib.Seq.{set_out}
 use Rattle.patches.proofs.set_link.Goals as goal
 
-pub returns-then-work-i : goal.returns-then-work-i
-returns-then-work-i c = sym (set_out _ _ _ (omega arith))
-
-pub returns : goal.returns
-returns c = rw c.at-i.ensures
+pub returns-else-i-work : goal.returns-else-i-work
+returns-else-i-work c = sym (set_out _ _ _ (omega arith))

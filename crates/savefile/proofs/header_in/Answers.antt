@@ -1,12 +1,12 @@
 -- Too short, or by the link type.
-use Rattle.savefile.specs.Savefile.{header_in}
-use mathlib.Core.Path.{refl}
+use Rattle.std.proofs.Common.{refl}
 use borrow.Author.Tests.{ne_eqb, lt-ltb, le-ltb}
+use Rattle.savefile.specs.Savefile.{header_in}
 use Rattle.savefile.proofs.header_in.Goals as goal
 
 pub returns-then-file-lt24 : goal.returns-then-file-lt24
 unfolding header_in
-returns-then-file-lt24 c = rw (lt-ltb _ _ c.if-file-lt24.true) refl
+returns-then-file-lt24 c = rw (lt-ltb _ _ c.if-file-lt24.true, c.at.ensures) refl
 
 pub returns-in-1 : goal.returns-in-1
 unfolding header_in
@@ -22,4 +22,4 @@ returns-in-113 c = rw (le-ltb _ _ c.if-file-lt24.false, ← c.number_at.ensures,
 
 pub returns-in_default : goal.returns-in_default
 unfolding header_in
-returns-in_default c = rw (le-ltb _ _ c.if-file-lt24.false, ← c.number_at.ensures, ne_eqb _ _ c.in_default.in_default-own.rest.0.0.1, ne_eqb _ _ c.in_default.in_default-own.rest.0.1, ne_eqb _ _ c.in_default.in_default-own.rest.1) refl
+returns-in_default c = rw (le-ltb _ _ c.if-file-lt24.false, c.at-in_default.ensures, ← c.number_at.ensures, ne_eqb _ _ c.in_default.in_default-own.rest.0.0.1, ne_eqb _ _ c.in_default.in_default-own.rest.0.1, ne_eqb _ _ c.in_default.in_default-own.rest.1) refl

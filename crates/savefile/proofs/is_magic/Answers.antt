@@ -1,17 +1,13 @@
 -- One of the two numbers.
+use Rattle.std.proofs.Common.{refl}
+use borrow.Author.Tests.{eq-eqb, ne_eqb}
 use Rattle.savefile.specs.Savefile.{is_magic}
-use mathlib.Core.Path.{refl}
-use borrow.Author.Tests.{ne_eqb}
 use Rattle.savefile.proofs.is_magic.Goals as goal
 
-pub returns-in-2712847316 : goal.returns-in-2712847316
+pub returns-then-x-eq2712847316 : goal.returns-then-x-eq2712847316
 unfolding is_magic
-returns-in-2712847316 c = rw c.in-2712847316.is refl
+returns-then-x-eq2712847316 c = rw (eq-eqb _ _ c.if-x-eq2712847316.true) refl
 
-pub returns-in-2712812621 : goal.returns-in-2712812621
+pub returns-else-x-eq2712847316 : goal.returns-else-x-eq2712847316
 unfolding is_magic
-returns-in-2712812621 c = rw c.in-2712812621.is refl
-
-pub returns-in_default : goal.returns-in_default
-unfolding is_magic
-returns-in_default c = simp (ne_eqb _ _ c.in_default.in_default-own.rest.1, ne_eqb _ _ c.in_default.in_default-own.rest.0.1)
+returns-else-x-eq2712847316 c = rw (ne_eqb _ _ c.if-x-eq2712847316.false) refl

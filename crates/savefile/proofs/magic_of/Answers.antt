@@ -1,5 +1,5 @@
 -- In one byte order, in the other, or in none.
-use mathlib.Core.Path.{refl, sym, ◌∙◌}
+use Rattle.std.proofs.Common.{refl, sym, ◌∙◌}
 use Rattle.savefile.specs.Savefile.{magic_of}
 use Rattle.savefile.proofs.magic_of.Goals as goal
 

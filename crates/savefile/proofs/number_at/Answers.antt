@@ -1,10 +1,12 @@
+-- Four bytes, in one order or the other.
+use Rattle.std.proofs.Common.{arith}
 use Rattle.savefile.specs.Savefile.{number_at, joined}
 use Rattle.savefile.proofs.number_at.Goals as goal
 
-pub returns-then-big : goal.returns-then-big
+pub returns-in-Big : goal.returns-in-Big
 unfolding number_at joined
-returns-then-big c = simp (c.join.ensures, c.if-big.true)
+returns-in-Big c = rw (c.in-Big.is, c.from_be_bytes.ensures) (omega arith)
 
-pub returns-else-big : goal.returns-else-big
+pub returns-in-Little : goal.returns-in-Little
 unfolding number_at joined
-returns-else-big c = simp (c.join-else-big.ensures, c.if-big.false)
+returns-in-Little c = rw (c.in-Little.is, c.from_le_bytes.ensures) (omega arith)

@@ -1,12 +1,14 @@
 -- The header, then the records.
+use Rattle.std.proofs.Common.{refl, rules, ◌≡◌, Err}
 use Rattle.savefile.specs.Savefile.{opened_of}
-use mathlib.Core.Path.{refl}
 use Rattle.savefile.proofs.open_file.Goals as goal
 
-pub returns-in-Capture : goal.returns-in-Capture
+pub returns-in_err-header : goal.returns-in_err-header
 unfolding opened_of
-returns-in-Capture c = rw (← c.open_header.ensures, c.in-Capture.is) c.open_records.ensures
+returns-in_err-header c =
+    let h : c.from_residual.result ≡ Err c.in_err-header.field-0.0 = search rules in
+    rw (← c.open_header.ensures, c.in_err-header.was, h) refl
 
-pub returns-in-Refused : goal.returns-in-Refused
+pub returns : goal.returns
 unfolding opened_of
-returns-in-Refused c = rw (← c.open_header.ensures, c.in-Refused.is) refl
+returns c = rw (← c.open_header.ensures, c.in_ok-header.was) c.open_records.ensures

@@ -4,7 +4,7 @@ use Rattle.checks.proofs.check.check_sheet_mode.Goals as goal
 
 pub returns-then-mode-gt1 : goal.returns-then-mode-gt1
 unfolding check_mode_of
-returns-then-mode-gt1 c = rw (lt-ltb _ _ c.if-mode-gt1.true)
+returns-then-mode-gt1 c = rw (lt-ltb _ _ c.if-mode-gt1.true, c.at.ensures)
 
 pub returns : goal.returns
 unfolding check_mode_of

@@ -1,12 +1,18 @@
+use Rattle.std.proofs.Common.{◌≡◌, rules, Err}
 use Rattle.checks.specs.Check.{whole_of, whole_sections}
 use Rattle.checks.proofs.check.check_whole.Goals as goal
 
-pub returns-in-None : goal.returns-in-None
+pub returns-in_err-n : goal.returns-in_err-n
 unfolding whole_of whole_sections
-returns-in-None c = rw (← c.find_sections.ensures, c.in-None.is)
+returns-in_err-n c =
+    let h : c.from_residual.result ≡ Err c.in_err-n.field-0.0 = search rules in
+    let e = c.in_err-n.ensures in
+    let v = rw e.ok_part at e.value in
+    let q : c.in_err-n.field-0.0 ≡ c.at.result = cc in
+    rw (← c.find_sections.ensures, e.ok_part, h, q, c.at.ensures)
 
-pub returns-in-Some : goal.returns-in-Some
+pub returns : goal.returns
 unfolding whole_of whole_sections
-returns-in-Some c =
-    let p = c.sections-parts.ensures in
-    rw (← c.find_sections.ensures, c.in-Some.is, ← p.steps, ← p.prims, ← p.tokens) c.check_shape.ensures
+returns c =
+    let p = c.sections.ensures in
+    rw (← c.find_sections.ensures, c.in_ok-n.ensures.ok_part, ← p.steps, ← p.prims, ← p.tokens) c.check_shape.ensures

@@ -1,12 +1,8 @@
+use Rattle.std.proofs.Common.{◌≡◌, ◌≤◌, ◌-◌, ◌*◌}
 use Rattle.filter.specs.First.{first}
 use Rattle.checks.specs.Check.{steps_before, shift_at}
-use mathlib.Core.Path.{◌≡◌}
-use Prim.Native.Nat.{◌≤◌, ◌-◌, ◌*◌}
 use Rattle.checks.proofs.check.first_shift.Given as goal
 
 -- No record before i has such a shift, and `from` is how many steps they take.
 abbrev pub invariant-loop-i : goal.invariant-loop-i
-invariant-loop-i l = (l.i ≤ l.m) × (l.from ≡ steps_before l.prims l.i) × (l.from ≤ 65535 * l.i) × (first (shift_at l.steps l.prims) l.m 0 ≡ first (shift_at l.steps l.prims) (l.m - l.i) l.i)
-
-abbrev pub decreases-loop-i : goal.decreases-loop-i
-decreases-loop-i l = l.m - l.i
+invariant-loop-i l = (l.from ≡ steps_before l.prims l.i) × (l.from ≤ 65535 * l.i) × (first (shift_at l.steps l.prims) l.n 0 ≡ first (shift_at l.steps l.prims) (l.n - l.i) l.i)

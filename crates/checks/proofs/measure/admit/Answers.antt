@@ -1,31 +1,31 @@
 -- A measured sheet's L is small, so that the sizes it asks can be written.
-use Rattle.checks.proofs.Bounds.{measured_length}
-use Rattle.checks.specs.Measure.{roomed, admit_of}
-use mathlib.Core.Path.{sym, ◌∙◌}
+use Rattle.std.proofs.Common.{◌≡◌, sym, rules, arith, Err}
 use borrow.Author.Tests.{lt-ltb, le-ltb}
-use native.Mathlib.Omega.{arith}
+use Rattle.checks.specs.Measure.{roomed, admit_of}
+use Rattle.checks.proofs.Bounds.{measured_length}
 use Rattle.checks.proofs.measure.admit.Goals as goal
 
 pub returns-then-mode-gt1 : goal.returns-then-mode-gt1
 unfolding admit_of
-returns-then-mode-gt1 c = rw (lt-ltb _ _ c.if-mode-gt1.true)
+returns-then-mode-gt1 c = rw (lt-ltb _ _ c.if-mode-gt1.true, c.at.ensures)
 
-pub overflow_mul-length : goal.overflow_mul-length
-overflow_mul-length c = let a = c.args in
-    omega (arith, measured_length a.sheet.now a.link (sym c.measure.ensures ∙ c.in-Length.is))
-
-pub returns-in-Refused : goal.returns-in-Refused
+pub returns-in_err-asked : goal.returns-in_err-asked
 unfolding admit_of roomed
-returns-in-Refused c = rw (le-ltb _ _ c.if-mode-gt1.false, ← c.measure.ensures, c.in-Refused.is)
+returns-in_err-asked c =
+    let h : c.from_residual.result ≡ Err c.in_err-asked.field-0.0 = search rules in
+    rw (le-ltb _ _ c.if-mode-gt1.false, h, ← c.in_err-asked.ensures)
 
-pub returns-then-output-length : goal.returns-then-output-length
-unfolding admit_of roomed
-returns-then-output-length c = rw (le-ltb _ _ c.if-mode-gt1.false, ← c.measure.ensures, c.in-Length.is, lt-ltb _ _ c.if-output-length.true)
+pub overflow_mul-asked : goal.overflow_mul-asked
+overflow_mul-asked c = omega (arith, measured_length c.args.sheet.now c.args.link (sym c.in_ok-asked.ensures))
 
-pub returns-then-work-length : goal.returns-then-work-length
+pub returns-then-output-asked : goal.returns-then-output-asked
 unfolding admit_of roomed
-returns-then-work-length c = rw (le-ltb _ _ c.if-mode-gt1.false, ← c.measure.ensures, c.in-Length.is, le-ltb _ _ c.if-output-length.false, lt-ltb _ _ c.if-work-length.true)
+returns-then-output-asked c = rw (le-ltb _ _ c.if-mode-gt1.false, ← c.in_ok-asked.ensures, lt-ltb _ _ c.if-output-asked.true, c.at-then-output-asked.ensures)
 
-pub returns-else-work-length : goal.returns-else-work-length
+pub returns-then-work-asked : goal.returns-then-work-asked
 unfolding admit_of roomed
-returns-else-work-length c = rw (le-ltb _ _ c.if-mode-gt1.false, ← c.measure.ensures, c.in-Length.is, le-ltb _ _ c.if-output-length.false, le-ltb _ _ c.if-work-length.false)
+returns-then-work-asked c = rw (le-ltb _ _ c.if-mode-gt1.false, ← c.in_ok-asked.ensures, le-ltb _ _ c.if-output-asked.false, ← c.from.ensures, lt-ltb _ _ c.if-work-asked.true, c.at-then-work-asked.ensures)
+
+pub returns : goal.returns
+unfolding admit_of roomed
+returns c = rw (le-ltb _ _ c.if-mode-gt1.false, ← c.in_ok-asked.ensures, le-ltb _ _ c.if-output-asked.false, ← c.from.ensures, le-ltb _ _ c.if-work-asked.false)

@@ -1,12 +1,15 @@
+use Rattle.std.proofs.Common.{◌≡◌, rules, Err}
 use Rattle.checks.specs.Measure.{measured, measure_of}
 use Rattle.checks.proofs.measure.measure.Goals as goal
 
-pub returns-in-Refused : goal.returns-in-Refused
+pub returns-in_err-counts : goal.returns-in_err-counts
 unfolding measure_of measured
-returns-in-Refused c = rw (← c.check_sheet.ensures, c.in-Refused.is)
+returns-in_err-counts c =
+    let h : c.from_residual.result ≡ Err c.in_err-counts.field-0.0 = search rules in
+    rw (h, ← c.in_err-counts.ensures)
 
-pub returns-in-Good : goal.returns-in-Good
+pub returns : goal.returns
 unfolding measure_of measured
-returns-in-Good c =
-    let p = c.sections-parts.ensures in
-    rw (← c.check_sheet.ensures, c.in-Good.is, ← c.link_of.ensures, ← p.steps, ← p.prims, ← p.tokens, c.program_length-length.ensures)
+returns c =
+    let p = c.sections.ensures in
+    rw (← c.in_ok-counts.ensures, ← c.from.ensures, ← p.steps, ← p.prims, ← p.tokens, c.program_length-length.ensures)

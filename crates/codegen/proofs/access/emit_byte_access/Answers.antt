@@ -1,30 +1,23 @@
--- With a constant, or nothing.
-use Prim.Native.Nat.{ℕ}
-use mathlib.Core.Path.{◌≡◌, ap}
-use mathlib.Core.List.{List}
-use Rattle.patches.specs.Code.{block}
-use Rattle.filter.specs.declared.ast.LinkType.{LinkType}
-use Rattle.filter.specs.declared.ast.CmpRhs.{CmpRhs}
-use Rattle.filter.specs.declared.ast.CmpRhs.TheVariants.{Const}
-use Rattle.filter.specs.declared.ast.ByteAccess.{ByteAccess}
-use Rattle.codegen.specs.Primitives.{access_at_code, access_rhs_code, emit_byte_access}
+-- The load at its place, then the steps and the comparison.
+use Rattle.std.proofs.Common.{arith}
+use Rattle.pieces.proofs.Laws.{chains, rooms}
+use Rattle.codegen.proofs.Laws.{raw_when, net_when}
 use Rattle.codegen.proofs.access.emit_byte_access.Goals as goal
 
-with-constant : (mode : ℕ) (link : LinkType) (steps : List ℕ) (j : ℕ) (x : ByteAccess) (k : ℕ) → x.rhs ≡ Const k
-    → emit_byte_access mode link steps j x ≡ access_at_code mode link steps j x.layer x k
-unfolding emit_byte_access
-with-constant mode link steps j x k e = ap (λ (r : CmpRhs). access_rhs_code mode link steps j r x) e
+pub emit_load-requires : goal.emit_load-requires
+emit_load-requires c = grind (arith, chains, rooms, raw_when c.args.code.now.mode c.args.code.now.link c.args.steps.now c.args.from c.args.x _ c.in-Const.is c.in-Raw.is)
 
-pub emit_access_at-requires : goal.emit_access_at-requires
-emit_access_at-requires c =
-    let a = c.args in
-    rw (with-constant a.mode a.link a.steps.now a.from a.x _ c.in-Const.is) at c.requires
+pub emit_steps_and_cmp-requires : goal.emit_steps_and_cmp-requires
+emit_steps_and_cmp-requires c = grind (arith, chains, rooms, raw_when c.args.code.now.mode c.args.code.now.link c.args.steps.now c.args.from c.args.x _ c.in-Const.is c.in-Raw.is)
 
-pub returns-in-Const : goal.returns-in-Const
-returns-in-Const c =
-    let a = c.args in
-    rw (with-constant a.mode a.link a.steps.now a.from a.x _ c.in-Const.is) c.emit_access_at.ensures
+pub emit_load_from-requires : goal.emit_load_from-requires
+emit_load_from-requires c = grind (arith, chains, rooms, net_when c.args.code.now.mode c.args.code.now.link c.args.steps.now c.args.from c.args.x _ c.in-Const.is c.in-Net.is)
 
-pub returns-in-Load : goal.returns-in-Load
-unfolding emit_byte_access block
-returns-in-Load c = rw c.in-Load.is
+pub emit_steps_and_cmp-requires-in-Net : goal.emit_steps_and_cmp-requires-in-Net
+emit_steps_and_cmp-requires-in-Net c = grind (arith, chains, rooms, net_when c.args.code.now.mode c.args.code.now.link c.args.steps.now c.args.from c.args.x _ c.in-Const.is c.in-Net.is)
+
+pub returns-in-Raw : goal.returns-in-Raw
+returns-in-Raw c = grind (arith, chains, rooms, raw_when c.args.code.now.mode c.args.code.now.link c.args.steps.now c.args.from c.args.x _ c.in-Const.is c.in-Raw.is)
+
+pub returns-in-Net : goal.returns-in-Net
+returns-in-Net c = grind (arith, chains, rooms, net_when c.args.code.now.mode c.args.code.now.link c.args.steps.now c.args.from c.args.x _ c.in-Const.is c.in-Net.is)

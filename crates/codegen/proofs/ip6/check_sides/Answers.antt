@@ -1,74 +1,99 @@
-use Prim.Native.Nat.{ℕ, ◌+◌}
-use mathlib.Core.Path.{refl, ap, ◌∙◌}
-use mathlib.Core.Logic.{inl, inr}
-use native.Mathlib.Omega.{arith}
+use Rattle.std.proofs.Common.{ℕ, ◌+◌, ◌*◌, ap, ◌∙◌, refl, inl, inr, arith}
 use Rattle.filter.specs.Ast.{net_offset}
+use Rattle.filter.specs.declared.ast.LinkType.{LinkType}
 use Rattle.codegen.specs.Primitives.{check_net6}
 use Rattle.codegen.proofs.Halves.{half_leads, half_next, halves_done, start, end_fits, side_leads, over_fits, side_next, sides_done}
 use Rattle.filter.proofs.Links.{net_low}
 use Rattle.codegen.proofs.ip6.check_sides.Invariants.{part}
-use Rattle.codegen.proofs.ip6.check_sides.Goals.{else-loop-i-test, then-loop-i-test+then-prefix_len-start_bit}
+use Rattle.codegen.proofs.ip6.check_sides.Goals.{else-loop-i-test, then-loop-i-test+then-prefix-i}
 use Rattle.codegen.proofs.ip6.check_sides.Goals as goal
 
 pub loop-side-init : goal.loop-side-init
 loop-side-init c = let a = c.args in
-    rw c.first_side-side.ensures (start a.dir (part a.mode a.link a.addr a.prefix) a.out.now a.work.now a.st c.requires)
-
-pub overflow_mul-side : goal.overflow_mul-side
-overflow_mul-side c = omega (arith, c.loop-side-test.true, c.past_sides-last.ensures.1)
-
-pub overflow_add-side : goal.overflow_add-side
-overflow_add-side c = omega (arith, c.loop-side-test.true, c.past_sides-last.ensures.1)
+    rw c.first_side-side.ensures (start a.dir (part a.code.now.mode a.code.now.link a.addr a.prefix) a.code.now c.requires)
 
 pub side_end-end-requires : goal.side_end-end-requires
-side_end-end-requires c = let a = c.args in let l = c.loop-side in
-    end_fits a.dir (part a.mode a.link a.addr a.prefix) c.side_length-n.result (c.side_length-n.ensures.by_index a.mode a.link a.addr (net_offset a.link + 8)) a.out.now a.work.now a.st l.out l.work l.x l.side l.invariant (rw c.past_sides-last.ensures.0 at c.loop-side-test.true)
+side_end-end-requires c =
+    let a = c.args in
+    let m = a.code.now.mode in
+    let k = a.code.now.link in
+    let l = c.loop-side in
+    let p = part m k a.addr a.prefix in
+    let size = c.side_length-n.ensures.by_index m k a.addr (net_offset k + 8) in
+    let in_side = rw c.past_sides-side-end.ensures.0 at c.loop-side-test.true in
+    end_fits a.dir p c.side_length-n.result size a.code.now l.code l.side l.invariant in_side
 
 pub loop-i-init : goal.loop-i-init
-loop-i-init c = let a = c.args in let l = c.loop-side in record {
-  made = refl;
-  leads = side_leads a.dir (part a.mode a.link a.addr a.prefix) c.side_length-n.result (c.side_length-n.ensures.by_index a.mode a.link a.addr (net_offset a.link + 8)) a.out.now a.work.now a.st l.out l.work l.x l.side l.invariant (rw c.past_sides-last.ensures.0 at c.loop-side-test.true)
-      c.side_end-end.result c.side_end-end.ensures (check_net6 a.mode a.link a.addr a.prefix c.net_plus-at.result 8 0) (ap (λ (at : ℕ). check_net6 a.mode a.link a.addr a.prefix at 8 0) c.net_plus-at.ensures) c.side_length-n.ensures.upper_bound;
-  i_in = omega arith;
-  out_len = refl;
-  work_len = refl;
-}
+loop-i-init c =
+    let a = c.args in
+    let m = a.code.now.mode in
+    let k = a.code.now.link in
+    let l = c.loop-side in
+    let p = part m k a.addr a.prefix in
+    let size = c.side_length-n.ensures.by_index m k a.addr (net_offset k + 8) in
+    let in_side = rw c.past_sides-side-end.ensures.0 at c.loop-side-test.true in
+    let code = check_net6 m k a.addr a.prefix c.net_plus-at.result 8 0 in
+    let is = ap (λ (at : ℕ). check_net6 m k a.addr a.prefix at 8 0) (c.net_plus-at.ensures ∙ ap (λ (link : LinkType). net_offset link + (8 + 16 * l.side)) l.invariant.link_is) in
+    record {
+      made = refl;
+      leads = side_leads a.dir p c.side_length-n.result size a.code.now l.code l.side l.invariant in_side c.side_end-end.result c.side_end-end.ensures code is c.side_length-n.ensures.upper_bound;
+      i_in = omega arith;
+      mode_is = l.invariant.mode_is;
+      link_is = l.invariant.link_is;
+    }
 
-pub overflow_mul-start_bit : goal.overflow_mul-start_bit
-overflow_mul-start_bit c = omega (arith, c.loop-i-test.true)
-
-pub check_segment-x-requires : goal.check_segment-x-requires
-check_segment-x-requires c = let a = c.args in let l = c.loop-side in let m = c.loop-i in
-    record { leads = half_leads a.mode a.link a.addr a.prefix c.net_plus-at.result c.side_end-end.result l.out l.work l.x m.out m.work m.x m.i m.invariant c.loop-i-test.true c.if-prefix_len-start_bit.false; i_bound = (c.loop-i-test.true, c.if-prefix_len-start_bit.false, omega (arith, c.loop-side-test.true, c.past_sides-last.ensures.1, c.net_plus-at.ensures, net_low a.link)) }
-
-pub overflow_add-i : goal.overflow_add-i
-overflow_add-i c = omega (arith, c.loop-i-test.true)
-
-pub loop-i-smaller : goal.loop-i-smaller
-loop-i-smaller c = omega (arith, c.loop-i-test.true)
+pub check_segment-requires : goal.check_segment-requires
+check_segment-requires c =
+    let a = c.args in
+    let i = c.loop-i in
+    record {
+      leads = half_leads a.code.now.mode a.code.now.link a.addr a.prefix c.net_plus-at.result c.side_end-end.result c.loop-side.code i.code i.i i.invariant c.loop-i-test.true c.if-prefix-i.false;
+      i_bound = (c.loop-i-test.true, c.if-prefix-i.false, omega (arith, c.loop-side-test.true, c.past_sides-side-end.ensures.1, c.net_plus-at.ensures, net_low c.loop-side.code.link));
+    }
 
 pub loop-i-preserved : goal.loop-i-preserved
-loop-i-preserved c = let a = c.args in let l = c.loop-side in let m = c.loop-i in half_next a.mode a.link a.addr a.prefix c.net_plus-at.result c.side_end-end.result l.out l.work l.x m.out m.work m.x m.i
-    c.check_segment-x.new.out c.check_segment-x.new.work c.check_segment-x.result m.invariant c.loop-i-test.true c.if-prefix_len-start_bit.false c.check_segment-x.auto.out c.check_segment-x.auto.work c.check_segment-x.ensures
+loop-i-preserved c =
+    let a = c.args in
+    let i = c.loop-i in
+    half_next a.code.now.mode a.code.now.link a.addr a.prefix c.net_plus-at.result c.side_end-end.result c.loop-side.code i.code i.i c.check_segment.new.code i.invariant
+    c.loop-i-test.true c.if-prefix-i.false c.check_segment.ensures
 
-pub push_over-x-requires : goal.push_over-x-requires
-push_over-x-requires c = let a = c.args in let l = c.loop-side in let m = c.loop-i in
-    over_fits a.dir (part a.mode a.link a.addr a.prefix) c.side_length-n.result (c.side_length-n.ensures.by_index a.mode a.link a.addr (net_offset a.link + 8)) a.out.now a.work.now a.st l.out l.work l.x l.side l.invariant (rw c.past_sides-last.ensures.0 at c.loop-side-test.true)
-    c.side_end-end.result c.side_end-end.ensures (check_net6 a.mode a.link a.addr a.prefix c.net_plus-at.result 8 0) (ap (λ (at : ℕ). check_net6 a.mode a.link a.addr a.prefix at 8 0) c.net_plus-at.ensures)
-    m.out m.work m.x (halves_done a.mode a.link a.addr a.prefix c.net_plus-at.result c.side_end-end.result l.out l.work l.x m.out m.work m.x m.i m.invariant (elim c.loop-i-test.branch [ else-loop-i-test w ↦ inl w.loop-i-test.false | then-loop-i-test+then-prefix_len-start_bit w ↦ inr w.if-prefix_len-start_bit.true ]))
-
-pub overflow_add-side-in-loop-side : goal.overflow_add-side-in-loop-side
-overflow_add-side-in-loop-side c = omega (arith, c.loop-side-test.true, c.past_sides-last.ensures.1)
-
-pub loop-side-smaller : goal.loop-side-smaller
-loop-side-smaller c = omega (arith, c.loop-side-test.true)
+pub push_over-requires : goal.push_over-requires
+push_over-requires c =
+    let a = c.args in
+    let m = a.code.now.mode in
+    let k = a.code.now.link in
+    let l = c.loop-side in
+    let p = part m k a.addr a.prefix in
+    let size = c.side_length-n.ensures.by_index m k a.addr (net_offset k + 8) in
+    let in_side = rw c.past_sides-side-end.ensures.0 at c.loop-side-test.true in
+    let code = check_net6 m k a.addr a.prefix c.net_plus-at.result 8 0 in
+    let is = ap (λ (at : ℕ). check_net6 m k a.addr a.prefix at 8 0) (c.net_plus-at.ensures ∙ ap (λ (link : LinkType). net_offset link + (8 + 16 * l.side)) l.invariant.link_is) in
+    let done = halves_done m k a.addr a.prefix c.net_plus-at.result c.side_end-end.result l.code c.loop-i.code c.loop-i.i c.loop-i.invariant
+    (elim c.loop-i-test.branch [ else-loop-i-test w ↦ inl w.loop-i-test.false | then-loop-i-test+then-prefix-i w ↦ inr w.if-prefix-i.true ]) in
+    over_fits a.dir p c.side_length-n.result size a.code.now l.code l.side l.invariant in_side c.side_end-end.result c.side_end-end.ensures code is c.loop-i.code done
 
 pub loop-side-preserved : goal.loop-side-preserved
-loop-side-preserved c = let a = c.args in let l = c.loop-side in let m = c.loop-i in side_next a.dir (part a.mode a.link a.addr a.prefix) c.side_length-n.result (c.side_length-n.ensures.by_index a.mode a.link a.addr (net_offset a.link + 8)) a.out.now a.work.now a.st l.out l.work l.x l.side l.invariant (rw c.past_sides-last.ensures.0 at c.loop-side-test.true)
-    c.side_end-end.result c.side_end-end.ensures (check_net6 a.mode a.link a.addr a.prefix c.net_plus-at.result 8 0) (ap (λ (at : ℕ). check_net6 a.mode a.link a.addr a.prefix at 8 0) c.net_plus-at.ensures)
-    m.out m.work m.x (halves_done a.mode a.link a.addr a.prefix c.net_plus-at.result c.side_end-end.result l.out l.work l.x m.out m.work m.x m.i m.invariant (elim c.loop-i-test.branch [ else-loop-i-test w ↦ inl w.loop-i-test.false | then-loop-i-test+then-prefix_len-start_bit w ↦ inr w.if-prefix_len-start_bit.true ]))
-    c.push_over-x.new.out c.push_over-x.new.work c.push_over-x.result c.push_over-x.ensures (c.push_over-x.auto.out ∙ m.invariant.out_len) (c.push_over-x.auto.work ∙ m.invariant.work_len)
+loop-side-preserved c =
+    let a = c.args in
+    let m = a.code.now.mode in
+    let k = a.code.now.link in
+    let l = c.loop-side in
+    let p = part m k a.addr a.prefix in
+    let size = c.side_length-n.ensures.by_index m k a.addr (net_offset k + 8) in
+    let in_side = rw c.past_sides-side-end.ensures.0 at c.loop-side-test.true in
+    let code = check_net6 m k a.addr a.prefix c.net_plus-at.result 8 0 in
+    let is = ap (λ (at : ℕ). check_net6 m k a.addr a.prefix at 8 0) (c.net_plus-at.ensures ∙ ap (λ (link : LinkType). net_offset link + (8 + 16 * l.side)) l.invariant.link_is) in
+    let done = halves_done m k a.addr a.prefix c.net_plus-at.result c.side_end-end.result l.code c.loop-i.code c.loop-i.i c.loop-i.invariant
+    (elim c.loop-i-test.branch [ else-loop-i-test w ↦ inl w.loop-i-test.false | then-loop-i-test+then-prefix-i w ↦ inr w.if-prefix-i.true ]) in
+    side_next a.dir p c.side_length-n.result size a.code.now l.code l.side l.invariant in_side c.side_end-end.result c.side_end-end.ensures code is c.loop-i.code done
+    c.push_over.new.code c.push_over.ensures
 
 pub returns : goal.returns
-returns c = let a = c.args in let l = c.loop-side in
-    sides_done a.dir (part a.mode a.link a.addr a.prefix) c.side_length-n.result (c.side_length-n.ensures.by_index a.mode a.link a.addr (net_offset a.link + 8)) a.out.now a.work.now a.st l.out l.work l.x l.side l.invariant (rw c.past_sides-last.ensures.0 at c.loop-side-test.false)
+returns c =
+    let a = c.args in
+    let m = a.code.now.mode in
+    let k = a.code.now.link in
+    let l = c.loop-side in
+    sides_done a.dir (part m k a.addr a.prefix) c.side_length-n.result (c.side_length-n.ensures.by_index m k a.addr (net_offset k + 8)) a.code.now l.code l.side l.invariant
+    (rw c.past_sides-side-end.ensures.0 at c.loop-side-test.false)

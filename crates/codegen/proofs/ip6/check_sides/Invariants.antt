@@ -1,5 +1,5 @@
 -- In each loop, what is left to write comes to what the whole came to where the loop began.
-use Prim.Native.Nat.{ℕ, ◌+◌, ◌-◌, ◌*◌}
+use Prim.Native.Nat.{ℕ, ◌+◌, ◌*◌}
 use mathlib.Core.List.{List}
 use Rattle.patches.specs.Code.{Slot}
 use Rattle.filter.specs.Ast.{net_offset}
@@ -14,13 +14,7 @@ abbrev pub part : ℕ → LinkType → Ipv6Addr → ℕ → ℕ → List Slot
 part mode link addr prefix side = check_net6 mode link addr prefix (net_offset link + (8 + 16 * side)) 8 0
 
 abbrev pub invariant-loop-i : goal.invariant-loop-i
-invariant-loop-i l = Inner l.mode l.link l.addr l.prefix l.at l.end l.initial.out l.initial.work l.initial.x l.out l.work l.x l.i
-
-abbrev pub decreases-loop-i : goal.decreases-loop-i
-decreases-loop-i l = 8 - l.i
+invariant-loop-i l = Inner l.fn.code.mode l.fn.code.link l.addr l.prefix l.at l.end l.initial.code l.code l.i
 
 abbrev pub invariant-loop-side : goal.invariant-loop-side
-invariant-loop-side l = Outer l.dir (part l.mode l.link l.addr l.prefix) l.initial.out l.initial.work l.initial.x l.out l.work l.x l.side
-
-abbrev pub decreases-loop-side : goal.decreases-loop-side
-decreases-loop-side l = l.last - l.side
+invariant-loop-side l = Outer l.dir (part l.initial.code.mode l.initial.code.link l.addr l.prefix) l.initial.code l.code l.side

@@ -1,16 +1,14 @@
--- The ethertype, then the number.
-use Rattle.codegen.specs.Primitives.{emit_pppoe_session}
-use Rattle.pieces.proofs.Pieces.{first, second, then}
+-- The number, where the link has an ethertype.
+use Rattle.std.proofs.Common.{arith, sym, ◌∙◌}
+use Rattle.pieces.proofs.Laws.{laws}
+use Rattle.codegen.proofs.Laws.{session_is}
 use Rattle.codegen.proofs.tags.emit_pppoe_session.Goals as goal
 
-pub emit_ethertype-a-requires : goal.emit_ethertype-a-requires
-unfolding emit_pppoe_session
-emit_ethertype-a-requires c = first _ _ _ c.requires
+pub emit_load_from-requires : goal.emit_load_from-requires
+emit_load_from-requires c = grind (arith, laws, session_is c.args.code.now.mode c.args.code.now.link c.args.id _ _ c.in-Some.is (sym c.ether_proto_offset-off.ensures ∙ c.in-Some-off.is))
 
-pub emit_session_id-requires : goal.emit_session_id-requires
-unfolding emit_pppoe_session
-emit_session_id-requires c = (second _ _ _ _ _ _ _ _ c.requires c.emit_ethertype-a.ensures)
+pub push_failure-requires : goal.push_failure-requires
+push_failure-requires c = grind (arith, laws, session_is c.args.code.now.mode c.args.code.now.link c.args.id _ _ c.in-Some.is (sym c.ether_proto_offset-off.ensures ∙ c.in-Some-off.is))
 
-pub returns : goal.returns
-unfolding emit_pppoe_session
-returns c = then _ _ _ _ _ c.emit_ethertype-a.ensures (c.emit_session_id.ensures)
+pub returns-in-Some-off : goal.returns-in-Some-off
+returns-in-Some-off c = grind (arith, laws, session_is c.args.code.now.mode c.args.code.now.link c.args.id _ _ c.in-Some.is (sym c.ether_proto_offset-off.ensures ∙ c.in-Some-off.is))

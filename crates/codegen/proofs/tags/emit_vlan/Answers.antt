@@ -1,16 +1,17 @@
--- The ethertype, then the number.
-use Rattle.codegen.specs.Primitives.{emit_vlan}
-use Rattle.pieces.proofs.Pieces.{first, second, then}
+-- The number, where the link has an ethertype.
+use Rattle.std.proofs.Common.{arith, sym, ◌∙◌}
+use Rattle.pieces.proofs.Laws.{laws}
+use Rattle.codegen.proofs.Laws.{vlan_is}
 use Rattle.codegen.proofs.tags.emit_vlan.Goals as goal
 
-pub emit_ethertype-a-requires : goal.emit_ethertype-a-requires
-unfolding emit_vlan
-emit_ethertype-a-requires c = first _ _ _ c.requires
+pub emit_load_from-requires : goal.emit_load_from-requires
+emit_load_from-requires c = grind (arith, laws, vlan_is c.args.code.now.mode c.args.code.now.link c.args.id _ _ c.in-Some.is (sym c.ether_proto_offset-off.ensures ∙ c.in-Some-off.is))
 
-pub emit_vlan_id-requires : goal.emit_vlan_id-requires
-unfolding emit_vlan
-emit_vlan_id-requires c = (second _ _ _ _ _ _ _ _ c.requires c.emit_ethertype-a.ensures)
+pub push-requires : goal.push-requires
+push-requires c = grind (arith, laws, vlan_is c.args.code.now.mode c.args.code.now.link c.args.id _ _ c.in-Some.is (sym c.ether_proto_offset-off.ensures ∙ c.in-Some-off.is))
 
-pub returns : goal.returns
-unfolding emit_vlan
-returns c = then _ _ _ _ _ c.emit_ethertype-a.ensures (c.emit_vlan_id.ensures)
+pub push_failure-requires : goal.push_failure-requires
+push_failure-requires c = grind (arith, laws, vlan_is c.args.code.now.mode c.args.code.now.link c.args.id _ _ c.in-Some.is (sym c.ether_proto_offset-off.ensures ∙ c.in-Some-off.is))
+
+pub returns-in-Some-off : goal.returns-in-Some-off
+returns-in-Some-off c = grind (arith, laws, vlan_is c.args.code.now.mode c.args.code.now.link c.args.id _ _ c.in-Some.is (sym c.ether_proto_offset-off.ensures ∙ c.in-Some-off.is))

@@ -1,221 +1,284 @@
--- Each opcode by its row; an instruction that is fine stands in one.
-use Rattle.std.proofs.Common.{sym, refl, ◌∙◌, rules}
-use Rattle.ebpf.proofs.SureArms.{imm64_arm, imm32_arm, reg64_arm, swap_arm, branch_arm, branch_reg_arm, jump_arm, load_arm, word_arm, exit_arm}
-use Rattle.ebpf.proofs.SureArms.{row_61, row_69, row_71, row_0f, row_1f, row_bf, row_07, row_b7, row_04, row_14, row_24, row_34, row_44, row_54, row_64, row_74, row_a4, row_dc, row_05, row_15, row_25, row_35, row_45, row_55, row_a5, row_b5, row_16, row_26, row_36, row_46, row_56, row_a6, row_b6, row_2d, row_95, row_none, not_none}
+-- Each opcode by its row of the table; an instruction that is fine stands in one.
+use Rattle.std.proofs.Common.{refl, ap, rules, arith}
+use Rattle.std.proofs.lemmas.Grind.{common_steps}
+use Rattle.ebpf.specs.declared.act.Act.TheVariants.{Jumps}
+use Rattle.ebpf.specs.Form.{form_of, form_at}
+use Rattle.ebpf.specs.Sure.{read}
+use Rattle.ebpf.proofs.SureArms.{needs, gives, imm64_arm, imm32_arm, reg64_arm, swap_arm, branch_arm, branch_reg_arm, jump_arm, load_arm, word_arm, exit_arm, not_none}
 use Rattle.ebpf.proofs.sure.act_of.Goals as goal
 
 pub word_load-requires : goal.word_load-requires
-word_load-requires c = record { at_in_bounds = c.requires.0; at_in_bounds_2 = λ ne. let z = (word_arm _ _ _ _ c.requires.2.1 (row_61 _ (sym c.code_at.ensures ∙ c.in-97.is))).0 ne in (rw c.requires.1 z.0, z.1) }
+unfolding form_of form_at
+word_load-requires c = needs (word_arm c.args.frame.now c.args.values.now (read c.args.i) (rw (← c.code.ensures, c.in-97.is))) c.requires
 
 pub frame_load-requires : goal.frame_load-requires
-frame_load-requires c = let z = (load_arm _ _ _ _ c.requires.2.1 2 refl (row_69 _ (sym c.code_at.ensures ∙ c.in-105.is))).0 in
-    record { at_in_bounds = c.requires.0; width = (search rules, rw c.requires.1 z.0, z.1) }
+unfolding form_of form_at
+frame_load-requires c = let z = needs (load_arm c.args.frame.now c.args.values.now (read c.args.i) 2 refl (rw (← c.code.ensures, c.in-105.is))) c.requires in (search rules, z.0, z.1)
 
 pub frame_load-requires-in-113 : goal.frame_load-requires-in-113
-frame_load-requires-in-113 c = let z = (load_arm _ _ _ _ c.requires.2.1 1 refl (row_71 _ (sym c.code_at.ensures ∙ c.in-113.is))).0 in
-    record { at_in_bounds = c.requires.0; width = (search rules, rw c.requires.1 z.0, z.1) }
+unfolding form_of form_at
+frame_load-requires-in-113 c = let z = needs (load_arm c.args.frame.now c.args.values.now (read c.args.i) 1 refl (rw (← c.code.ensures, c.in-113.is))) c.requires in (search rules, z.0, z.1)
 
 pub reg64-requires : goal.reg64-requires
-reg64-requires c = let z = (reg64_arm _ _ _ _ c.requires.2.1 0 (row_0f _ (sym c.code_at.ensures ∙ c.in-15.is))).0 in
-    record { at_in_bounds = c.requires.0; at_in_bounds_2 = (rw c.requires.1 z.0, rw c.requires.1 z.1) }
+unfolding form_of form_at
+reg64-requires c = needs (reg64_arm c.args.frame.now c.args.values.now (read c.args.i) 0 (rw (← c.code.ensures, c.in-15.is))) c.requires
 
 pub reg64-requires-in-31 : goal.reg64-requires-in-31
-reg64-requires-in-31 c = let z = (reg64_arm _ _ _ _ c.requires.2.1 1 (row_1f _ (sym c.code_at.ensures ∙ c.in-31.is))).0 in
-    record { at_in_bounds = c.requires.0; at_in_bounds_2 = (rw c.requires.1 z.0, rw c.requires.1 z.1) }
+unfolding form_of form_at
+reg64-requires-in-31 c = needs (reg64_arm c.args.frame.now c.args.values.now (read c.args.i) 1 (rw (← c.code.ensures, c.in-31.is))) c.requires
 
 pub reg64-requires-in-191 : goal.reg64-requires-in-191
-reg64-requires-in-191 c = let z = (reg64_arm _ _ _ _ c.requires.2.1 11 (row_bf _ (sym c.code_at.ensures ∙ c.in-191.is))).0 in
-    record { at_in_bounds = c.requires.0; at_in_bounds_2 = (rw c.requires.1 z.0, rw c.requires.1 z.1) }
+unfolding form_of form_at
+reg64-requires-in-191 c = needs (reg64_arm c.args.frame.now c.args.values.now (read c.args.i) 11 (rw (← c.code.ensures, c.in-191.is))) c.requires
 
 pub imm64-requires : goal.imm64-requires
-imm64-requires c = record { at_in_bounds = c.requires.0; at_in_bounds_2 = rw c.requires.1 (imm64_arm _ _ _ _ c.requires.2.1 0 (row_07 _ (sym c.code_at.ensures ∙ c.in-7.is))).0 }
+unfolding form_of form_at
+imm64-requires c = needs (imm64_arm c.args.frame.now c.args.values.now (read c.args.i) 0 (rw (← c.code.ensures, c.in-7.is))) c.requires
 
 pub imm64-requires-in-183 : goal.imm64-requires-in-183
-imm64-requires-in-183 c = record { at_in_bounds = c.requires.0; at_in_bounds_2 = rw c.requires.1 (imm64_arm _ _ _ _ c.requires.2.1 11 (row_b7 _ (sym c.code_at.ensures ∙ c.in-183.is))).0 }
+unfolding form_of form_at
+imm64-requires-in-183 c = needs (imm64_arm c.args.frame.now c.args.values.now (read c.args.i) 11 (rw (← c.code.ensures, c.in-183.is))) c.requires
 
 pub imm32-requires : goal.imm32-requires
-imm32-requires c = record { at_in_bounds = c.requires.0; at_in_bounds_2 = rw c.requires.1 (imm32_arm _ _ _ _ c.requires.2.1 0 (row_04 _ (sym c.code_at.ensures ∙ c.in-4.is))).0 }
+unfolding form_of form_at
+imm32-requires c = needs (imm32_arm c.args.frame.now c.args.values.now (read c.args.i) 0 (rw (← c.code.ensures, c.in-4.is))) c.requires
 
 pub imm32-requires-in-20 : goal.imm32-requires-in-20
-imm32-requires-in-20 c = record { at_in_bounds = c.requires.0; at_in_bounds_2 = rw c.requires.1 (imm32_arm _ _ _ _ c.requires.2.1 1 (row_14 _ (sym c.code_at.ensures ∙ c.in-20.is))).0 }
+unfolding form_of form_at
+imm32-requires-in-20 c = needs (imm32_arm c.args.frame.now c.args.values.now (read c.args.i) 1 (rw (← c.code.ensures, c.in-20.is))) c.requires
 
 pub imm32-requires-in-36 : goal.imm32-requires-in-36
-imm32-requires-in-36 c = record { at_in_bounds = c.requires.0; at_in_bounds_2 = rw c.requires.1 (imm32_arm _ _ _ _ c.requires.2.1 2 (row_24 _ (sym c.code_at.ensures ∙ c.in-36.is))).0 }
+unfolding form_of form_at
+imm32-requires-in-36 c = needs (imm32_arm c.args.frame.now c.args.values.now (read c.args.i) 2 (rw (← c.code.ensures, c.in-36.is))) c.requires
 
 pub imm32-requires-in-52 : goal.imm32-requires-in-52
-imm32-requires-in-52 c = record { at_in_bounds = c.requires.0; at_in_bounds_2 = rw c.requires.1 (imm32_arm _ _ _ _ c.requires.2.1 3 (row_34 _ (sym c.code_at.ensures ∙ c.in-52.is))).0 }
+unfolding form_of form_at
+imm32-requires-in-52 c = needs (imm32_arm c.args.frame.now c.args.values.now (read c.args.i) 3 (rw (← c.code.ensures, c.in-52.is))) c.requires
 
 pub imm32-requires-in-68 : goal.imm32-requires-in-68
-imm32-requires-in-68 c = record { at_in_bounds = c.requires.0; at_in_bounds_2 = rw c.requires.1 (imm32_arm _ _ _ _ c.requires.2.1 4 (row_44 _ (sym c.code_at.ensures ∙ c.in-68.is))).0 }
+unfolding form_of form_at
+imm32-requires-in-68 c = needs (imm32_arm c.args.frame.now c.args.values.now (read c.args.i) 4 (rw (← c.code.ensures, c.in-68.is))) c.requires
 
 pub imm32-requires-in-84 : goal.imm32-requires-in-84
-imm32-requires-in-84 c = record { at_in_bounds = c.requires.0; at_in_bounds_2 = rw c.requires.1 (imm32_arm _ _ _ _ c.requires.2.1 5 (row_54 _ (sym c.code_at.ensures ∙ c.in-84.is))).0 }
+unfolding form_of form_at
+imm32-requires-in-84 c = needs (imm32_arm c.args.frame.now c.args.values.now (read c.args.i) 5 (rw (← c.code.ensures, c.in-84.is))) c.requires
 
 pub imm32-requires-in-100 : goal.imm32-requires-in-100
-imm32-requires-in-100 c = record { at_in_bounds = c.requires.0; at_in_bounds_2 = rw c.requires.1 (imm32_arm _ _ _ _ c.requires.2.1 6 (row_64 _ (sym c.code_at.ensures ∙ c.in-100.is))).0 }
+unfolding form_of form_at
+imm32-requires-in-100 c = needs (imm32_arm c.args.frame.now c.args.values.now (read c.args.i) 6 (rw (← c.code.ensures, c.in-100.is))) c.requires
 
 pub imm32-requires-in-116 : goal.imm32-requires-in-116
-imm32-requires-in-116 c = record { at_in_bounds = c.requires.0; at_in_bounds_2 = rw c.requires.1 (imm32_arm _ _ _ _ c.requires.2.1 7 (row_74 _ (sym c.code_at.ensures ∙ c.in-116.is))).0 }
+unfolding form_of form_at
+imm32-requires-in-116 c = needs (imm32_arm c.args.frame.now c.args.values.now (read c.args.i) 7 (rw (← c.code.ensures, c.in-116.is))) c.requires
 
 pub imm32-requires-in-164 : goal.imm32-requires-in-164
-imm32-requires-in-164 c = record { at_in_bounds = c.requires.0; at_in_bounds_2 = rw c.requires.1 (imm32_arm _ _ _ _ c.requires.2.1 10 (row_a4 _ (sym c.code_at.ensures ∙ c.in-164.is))).0 }
+unfolding form_of form_at
+imm32-requires-in-164 c = needs (imm32_arm c.args.frame.now c.args.values.now (read c.args.i) 10 (rw (← c.code.ensures, c.in-164.is))) c.requires
 
 pub swap_bytes-requires : goal.swap_bytes-requires
-swap_bytes-requires c = record { at_in_bounds = c.requires.0; at_in_bounds_2 = rw c.requires.1 (swap_arm _ _ _ _ c.requires.2.1 (row_dc _ (sym c.code_at.ensures ∙ c.in-220.is))).0 }
+unfolding form_of form_at
+swap_bytes-requires c = needs (swap_arm c.args.frame.now c.args.values.now (read c.args.i) (rw (← c.code.ensures, c.in-220.is))) c.requires
 
-pub jump-requires : goal.jump-requires
-jump-requires c = c.requires.0
+pub branch-i-requires : goal.branch-i-requires
+unfolding form_of form_at
+branch-i-requires c = needs (branch_arm c.args.frame.now c.args.values.now (read c.args.i) 5 1 (rw (← c.code.ensures, c.in-21.is))) c.requires
 
-pub branch-program-requires : goal.branch-program-requires
-branch-program-requires c = record { at_in_bounds = c.requires.0; at_in_bounds_2 = rw c.requires.1 (branch_arm _ _ _ _ c.requires.2.1 5 1 (row_15 _ (sym c.code_at.ensures ∙ c.in-21.is))).0 }
+pub branch-i-requires-in-37 : goal.branch-i-requires-in-37
+unfolding form_of form_at
+branch-i-requires-in-37 c = needs (branch_arm c.args.frame.now c.args.values.now (read c.args.i) 5 2 (rw (← c.code.ensures, c.in-37.is))) c.requires
 
-pub branch-program-requires-in-37 : goal.branch-program-requires-in-37
-branch-program-requires-in-37 c = record { at_in_bounds = c.requires.0; at_in_bounds_2 = rw c.requires.1 (branch_arm _ _ _ _ c.requires.2.1 5 2 (row_25 _ (sym c.code_at.ensures ∙ c.in-37.is))).0 }
+pub branch-i-requires-in-53 : goal.branch-i-requires-in-53
+unfolding form_of form_at
+branch-i-requires-in-53 c = needs (branch_arm c.args.frame.now c.args.values.now (read c.args.i) 5 3 (rw (← c.code.ensures, c.in-53.is))) c.requires
 
-pub branch-program-requires-in-53 : goal.branch-program-requires-in-53
-branch-program-requires-in-53 c = record { at_in_bounds = c.requires.0; at_in_bounds_2 = rw c.requires.1 (branch_arm _ _ _ _ c.requires.2.1 5 3 (row_35 _ (sym c.code_at.ensures ∙ c.in-53.is))).0 }
+pub branch-i-requires-in-69 : goal.branch-i-requires-in-69
+unfolding form_of form_at
+branch-i-requires-in-69 c = needs (branch_arm c.args.frame.now c.args.values.now (read c.args.i) 5 4 (rw (← c.code.ensures, c.in-69.is))) c.requires
 
-pub branch-program-requires-in-69 : goal.branch-program-requires-in-69
-branch-program-requires-in-69 c = record { at_in_bounds = c.requires.0; at_in_bounds_2 = rw c.requires.1 (branch_arm _ _ _ _ c.requires.2.1 5 4 (row_45 _ (sym c.code_at.ensures ∙ c.in-69.is))).0 }
+pub branch-i-requires-in-85 : goal.branch-i-requires-in-85
+unfolding form_of form_at
+branch-i-requires-in-85 c = needs (branch_arm c.args.frame.now c.args.values.now (read c.args.i) 5 5 (rw (← c.code.ensures, c.in-85.is))) c.requires
 
-pub branch-program-requires-in-85 : goal.branch-program-requires-in-85
-branch-program-requires-in-85 c = record { at_in_bounds = c.requires.0; at_in_bounds_2 = rw c.requires.1 (branch_arm _ _ _ _ c.requires.2.1 5 5 (row_55 _ (sym c.code_at.ensures ∙ c.in-85.is))).0 }
+pub branch-i-requires-in-165 : goal.branch-i-requires-in-165
+unfolding form_of form_at
+branch-i-requires-in-165 c = needs (branch_arm c.args.frame.now c.args.values.now (read c.args.i) 5 10 (rw (← c.code.ensures, c.in-165.is))) c.requires
 
-pub branch-program-requires-in-165 : goal.branch-program-requires-in-165
-branch-program-requires-in-165 c = record { at_in_bounds = c.requires.0; at_in_bounds_2 = rw c.requires.1 (branch_arm _ _ _ _ c.requires.2.1 5 10 (row_a5 _ (sym c.code_at.ensures ∙ c.in-165.is))).0 }
+pub branch-i-requires-in-181 : goal.branch-i-requires-in-181
+unfolding form_of form_at
+branch-i-requires-in-181 c = needs (branch_arm c.args.frame.now c.args.values.now (read c.args.i) 5 11 (rw (← c.code.ensures, c.in-181.is))) c.requires
 
-pub branch-program-requires-in-181 : goal.branch-program-requires-in-181
-branch-program-requires-in-181 c = record { at_in_bounds = c.requires.0; at_in_bounds_2 = rw c.requires.1 (branch_arm _ _ _ _ c.requires.2.1 5 11 (row_b5 _ (sym c.code_at.ensures ∙ c.in-181.is))).0 }
+pub branch-i-requires-in-22 : goal.branch-i-requires-in-22
+unfolding form_of form_at
+branch-i-requires-in-22 c = needs (branch_arm c.args.frame.now c.args.values.now (read c.args.i) 6 1 (rw (← c.code.ensures, c.in-22.is))) c.requires
 
-pub branch-program-requires-in-22 : goal.branch-program-requires-in-22
-branch-program-requires-in-22 c = record { at_in_bounds = c.requires.0; at_in_bounds_2 = rw c.requires.1 (branch_arm _ _ _ _ c.requires.2.1 6 1 (row_16 _ (sym c.code_at.ensures ∙ c.in-22.is))).0 }
+pub branch-i-requires-in-38 : goal.branch-i-requires-in-38
+unfolding form_of form_at
+branch-i-requires-in-38 c = needs (branch_arm c.args.frame.now c.args.values.now (read c.args.i) 6 2 (rw (← c.code.ensures, c.in-38.is))) c.requires
 
-pub branch-program-requires-in-38 : goal.branch-program-requires-in-38
-branch-program-requires-in-38 c = record { at_in_bounds = c.requires.0; at_in_bounds_2 = rw c.requires.1 (branch_arm _ _ _ _ c.requires.2.1 6 2 (row_26 _ (sym c.code_at.ensures ∙ c.in-38.is))).0 }
+pub branch-i-requires-in-54 : goal.branch-i-requires-in-54
+unfolding form_of form_at
+branch-i-requires-in-54 c = needs (branch_arm c.args.frame.now c.args.values.now (read c.args.i) 6 3 (rw (← c.code.ensures, c.in-54.is))) c.requires
 
-pub branch-program-requires-in-54 : goal.branch-program-requires-in-54
-branch-program-requires-in-54 c = record { at_in_bounds = c.requires.0; at_in_bounds_2 = rw c.requires.1 (branch_arm _ _ _ _ c.requires.2.1 6 3 (row_36 _ (sym c.code_at.ensures ∙ c.in-54.is))).0 }
+pub branch-i-requires-in-70 : goal.branch-i-requires-in-70
+unfolding form_of form_at
+branch-i-requires-in-70 c = needs (branch_arm c.args.frame.now c.args.values.now (read c.args.i) 6 4 (rw (← c.code.ensures, c.in-70.is))) c.requires
 
-pub branch-program-requires-in-70 : goal.branch-program-requires-in-70
-branch-program-requires-in-70 c = record { at_in_bounds = c.requires.0; at_in_bounds_2 = rw c.requires.1 (branch_arm _ _ _ _ c.requires.2.1 6 4 (row_46 _ (sym c.code_at.ensures ∙ c.in-70.is))).0 }
+pub branch-i-requires-in-86 : goal.branch-i-requires-in-86
+unfolding form_of form_at
+branch-i-requires-in-86 c = needs (branch_arm c.args.frame.now c.args.values.now (read c.args.i) 6 5 (rw (← c.code.ensures, c.in-86.is))) c.requires
 
-pub branch-program-requires-in-86 : goal.branch-program-requires-in-86
-branch-program-requires-in-86 c = record { at_in_bounds = c.requires.0; at_in_bounds_2 = rw c.requires.1 (branch_arm _ _ _ _ c.requires.2.1 6 5 (row_56 _ (sym c.code_at.ensures ∙ c.in-86.is))).0 }
+pub branch-i-requires-in-166 : goal.branch-i-requires-in-166
+unfolding form_of form_at
+branch-i-requires-in-166 c = needs (branch_arm c.args.frame.now c.args.values.now (read c.args.i) 6 10 (rw (← c.code.ensures, c.in-166.is))) c.requires
 
-pub branch-program-requires-in-166 : goal.branch-program-requires-in-166
-branch-program-requires-in-166 c = record { at_in_bounds = c.requires.0; at_in_bounds_2 = rw c.requires.1 (branch_arm _ _ _ _ c.requires.2.1 6 10 (row_a6 _ (sym c.code_at.ensures ∙ c.in-166.is))).0 }
-
-pub branch-program-requires-in-182 : goal.branch-program-requires-in-182
-branch-program-requires-in-182 c = record { at_in_bounds = c.requires.0; at_in_bounds_2 = rw c.requires.1 (branch_arm _ _ _ _ c.requires.2.1 6 11 (row_b6 _ (sym c.code_at.ensures ∙ c.in-182.is))).0 }
+pub branch-i-requires-in-182 : goal.branch-i-requires-in-182
+unfolding form_of form_at
+branch-i-requires-in-182 c = needs (branch_arm c.args.frame.now c.args.values.now (read c.args.i) 6 11 (rw (← c.code.ensures, c.in-182.is))) c.requires
 
 pub branch_reg-requires : goal.branch_reg-requires
-branch_reg-requires c = let z = (branch_reg_arm _ _ _ _ c.requires.2.1 2 (row_2d _ (sym c.code_at.ensures ∙ c.in-45.is))).0 in
-    record { at_in_bounds = c.requires.0; at_in_bounds_2 = (rw c.requires.1 z.0, rw c.requires.1 z.1) }
+unfolding form_of form_at
+branch_reg-requires c = needs (branch_reg_arm c.args.frame.now c.args.values.now (read c.args.i) 2 (rw (← c.code.ensures, c.in-45.is))) c.requires
 
 pub returns-in-97 : goal.returns-in-97
-returns-in-97 c = (λ w fine. c.word_load.ensures ∙ (word_arm _ _ w _ fine (row_61 _ (sym c.code_at.ensures ∙ c.in-97.is))).1.0, rw c.word_load.ensures (word_arm _ _ _ _ c.requires.2.1 (row_61 _ (sym c.code_at.ensures ∙ c.in-97.is))).1.1)
+unfolding form_of form_at
+returns-in-97 c = gives (word_arm c.args.frame.now c.args.values.now (read c.args.i) (rw (← c.code.ensures, c.in-97.is))) c.requires c.word_load.ensures
 
 pub returns-in-105 : goal.returns-in-105
-returns-in-105 c = (λ w fine. c.frame_load.ensures ∙ (load_arm _ _ w _ fine 2 refl (row_69 _ (sym c.code_at.ensures ∙ c.in-105.is))).1.0, rw c.frame_load.ensures (load_arm _ _ _ _ c.requires.2.1 2 refl (row_69 _ (sym c.code_at.ensures ∙ c.in-105.is))).1.1)
+unfolding form_of form_at
+returns-in-105 c = gives (load_arm c.args.frame.now c.args.values.now (read c.args.i) 2 refl (rw (← c.code.ensures, c.in-105.is))) c.requires c.frame_load.ensures
 
 pub returns-in-113 : goal.returns-in-113
-returns-in-113 c = (λ w fine. c.frame_load-in-113.ensures ∙ (load_arm _ _ w _ fine 1 refl (row_71 _ (sym c.code_at.ensures ∙ c.in-113.is))).1.0, rw c.frame_load-in-113.ensures (load_arm _ _ _ _ c.requires.2.1 1 refl (row_71 _ (sym c.code_at.ensures ∙ c.in-113.is))).1.1)
+unfolding form_of form_at
+returns-in-113 c = gives (load_arm c.args.frame.now c.args.values.now (read c.args.i) 1 refl (rw (← c.code.ensures, c.in-113.is))) c.requires c.frame_load-in-113.ensures
 
 pub returns-in-15 : goal.returns-in-15
-returns-in-15 c = (λ w fine. c.reg64.ensures ∙ (reg64_arm _ _ w _ fine 0 (row_0f _ (sym c.code_at.ensures ∙ c.in-15.is))).1.0, rw c.reg64.ensures (reg64_arm _ _ _ _ c.requires.2.1 0 (row_0f _ (sym c.code_at.ensures ∙ c.in-15.is))).1.1)
+unfolding form_of form_at
+returns-in-15 c = gives (reg64_arm c.args.frame.now c.args.values.now (read c.args.i) 0 (rw (← c.code.ensures, c.in-15.is))) c.requires c.reg64.ensures
 
 pub returns-in-31 : goal.returns-in-31
-returns-in-31 c = (λ w fine. c.reg64-in-31.ensures ∙ (reg64_arm _ _ w _ fine 1 (row_1f _ (sym c.code_at.ensures ∙ c.in-31.is))).1.0, rw c.reg64-in-31.ensures (reg64_arm _ _ _ _ c.requires.2.1 1 (row_1f _ (sym c.code_at.ensures ∙ c.in-31.is))).1.1)
+unfolding form_of form_at
+returns-in-31 c = gives (reg64_arm c.args.frame.now c.args.values.now (read c.args.i) 1 (rw (← c.code.ensures, c.in-31.is))) c.requires c.reg64-in-31.ensures
 
 pub returns-in-191 : goal.returns-in-191
-returns-in-191 c = (λ w fine. c.reg64-in-191.ensures ∙ (reg64_arm _ _ w _ fine 11 (row_bf _ (sym c.code_at.ensures ∙ c.in-191.is))).1.0, rw c.reg64-in-191.ensures (reg64_arm _ _ _ _ c.requires.2.1 11 (row_bf _ (sym c.code_at.ensures ∙ c.in-191.is))).1.1)
+unfolding form_of form_at
+returns-in-191 c = gives (reg64_arm c.args.frame.now c.args.values.now (read c.args.i) 11 (rw (← c.code.ensures, c.in-191.is))) c.requires c.reg64-in-191.ensures
 
 pub returns-in-7 : goal.returns-in-7
-returns-in-7 c = (λ w fine. c.imm64.ensures ∙ (imm64_arm _ _ w _ fine 0 (row_07 _ (sym c.code_at.ensures ∙ c.in-7.is))).1.0, rw c.imm64.ensures (imm64_arm _ _ _ _ c.requires.2.1 0 (row_07 _ (sym c.code_at.ensures ∙ c.in-7.is))).1.1)
+unfolding form_of form_at
+returns-in-7 c = gives (imm64_arm c.args.frame.now c.args.values.now (read c.args.i) 0 (rw (← c.code.ensures, c.in-7.is))) c.requires c.imm64.ensures
 
 pub returns-in-183 : goal.returns-in-183
-returns-in-183 c = (λ w fine. c.imm64-in-183.ensures ∙ (imm64_arm _ _ w _ fine 11 (row_b7 _ (sym c.code_at.ensures ∙ c.in-183.is))).1.0, rw c.imm64-in-183.ensures (imm64_arm _ _ _ _ c.requires.2.1 11 (row_b7 _ (sym c.code_at.ensures ∙ c.in-183.is))).1.1)
+unfolding form_of form_at
+returns-in-183 c = gives (imm64_arm c.args.frame.now c.args.values.now (read c.args.i) 11 (rw (← c.code.ensures, c.in-183.is))) c.requires c.imm64-in-183.ensures
 
 pub returns-in-4 : goal.returns-in-4
-returns-in-4 c = (λ w fine. c.imm32.ensures ∙ (imm32_arm _ _ w _ fine 0 (row_04 _ (sym c.code_at.ensures ∙ c.in-4.is))).1.0, rw c.imm32.ensures (imm32_arm _ _ _ _ c.requires.2.1 0 (row_04 _ (sym c.code_at.ensures ∙ c.in-4.is))).1.1)
+unfolding form_of form_at
+returns-in-4 c = gives (imm32_arm c.args.frame.now c.args.values.now (read c.args.i) 0 (rw (← c.code.ensures, c.in-4.is))) c.requires c.imm32.ensures
 
 pub returns-in-20 : goal.returns-in-20
-returns-in-20 c = (λ w fine. c.imm32-in-20.ensures ∙ (imm32_arm _ _ w _ fine 1 (row_14 _ (sym c.code_at.ensures ∙ c.in-20.is))).1.0, rw c.imm32-in-20.ensures (imm32_arm _ _ _ _ c.requires.2.1 1 (row_14 _ (sym c.code_at.ensures ∙ c.in-20.is))).1.1)
+unfolding form_of form_at
+returns-in-20 c = gives (imm32_arm c.args.frame.now c.args.values.now (read c.args.i) 1 (rw (← c.code.ensures, c.in-20.is))) c.requires c.imm32-in-20.ensures
 
 pub returns-in-36 : goal.returns-in-36
-returns-in-36 c = (λ w fine. c.imm32-in-36.ensures ∙ (imm32_arm _ _ w _ fine 2 (row_24 _ (sym c.code_at.ensures ∙ c.in-36.is))).1.0, rw c.imm32-in-36.ensures (imm32_arm _ _ _ _ c.requires.2.1 2 (row_24 _ (sym c.code_at.ensures ∙ c.in-36.is))).1.1)
+unfolding form_of form_at
+returns-in-36 c = gives (imm32_arm c.args.frame.now c.args.values.now (read c.args.i) 2 (rw (← c.code.ensures, c.in-36.is))) c.requires c.imm32-in-36.ensures
 
 pub returns-in-52 : goal.returns-in-52
-returns-in-52 c = (λ w fine. c.imm32-in-52.ensures ∙ (imm32_arm _ _ w _ fine 3 (row_34 _ (sym c.code_at.ensures ∙ c.in-52.is))).1.0, rw c.imm32-in-52.ensures (imm32_arm _ _ _ _ c.requires.2.1 3 (row_34 _ (sym c.code_at.ensures ∙ c.in-52.is))).1.1)
+unfolding form_of form_at
+returns-in-52 c = gives (imm32_arm c.args.frame.now c.args.values.now (read c.args.i) 3 (rw (← c.code.ensures, c.in-52.is))) c.requires c.imm32-in-52.ensures
 
 pub returns-in-68 : goal.returns-in-68
-returns-in-68 c = (λ w fine. c.imm32-in-68.ensures ∙ (imm32_arm _ _ w _ fine 4 (row_44 _ (sym c.code_at.ensures ∙ c.in-68.is))).1.0, rw c.imm32-in-68.ensures (imm32_arm _ _ _ _ c.requires.2.1 4 (row_44 _ (sym c.code_at.ensures ∙ c.in-68.is))).1.1)
+unfolding form_of form_at
+returns-in-68 c = gives (imm32_arm c.args.frame.now c.args.values.now (read c.args.i) 4 (rw (← c.code.ensures, c.in-68.is))) c.requires c.imm32-in-68.ensures
 
 pub returns-in-84 : goal.returns-in-84
-returns-in-84 c = (λ w fine. c.imm32-in-84.ensures ∙ (imm32_arm _ _ w _ fine 5 (row_54 _ (sym c.code_at.ensures ∙ c.in-84.is))).1.0, rw c.imm32-in-84.ensures (imm32_arm _ _ _ _ c.requires.2.1 5 (row_54 _ (sym c.code_at.ensures ∙ c.in-84.is))).1.1)
+unfolding form_of form_at
+returns-in-84 c = gives (imm32_arm c.args.frame.now c.args.values.now (read c.args.i) 5 (rw (← c.code.ensures, c.in-84.is))) c.requires c.imm32-in-84.ensures
 
 pub returns-in-100 : goal.returns-in-100
-returns-in-100 c = (λ w fine. c.imm32-in-100.ensures ∙ (imm32_arm _ _ w _ fine 6 (row_64 _ (sym c.code_at.ensures ∙ c.in-100.is))).1.0, rw c.imm32-in-100.ensures (imm32_arm _ _ _ _ c.requires.2.1 6 (row_64 _ (sym c.code_at.ensures ∙ c.in-100.is))).1.1)
+unfolding form_of form_at
+returns-in-100 c = gives (imm32_arm c.args.frame.now c.args.values.now (read c.args.i) 6 (rw (← c.code.ensures, c.in-100.is))) c.requires c.imm32-in-100.ensures
 
 pub returns-in-116 : goal.returns-in-116
-returns-in-116 c = (λ w fine. c.imm32-in-116.ensures ∙ (imm32_arm _ _ w _ fine 7 (row_74 _ (sym c.code_at.ensures ∙ c.in-116.is))).1.0, rw c.imm32-in-116.ensures (imm32_arm _ _ _ _ c.requires.2.1 7 (row_74 _ (sym c.code_at.ensures ∙ c.in-116.is))).1.1)
+unfolding form_of form_at
+returns-in-116 c = gives (imm32_arm c.args.frame.now c.args.values.now (read c.args.i) 7 (rw (← c.code.ensures, c.in-116.is))) c.requires c.imm32-in-116.ensures
 
 pub returns-in-164 : goal.returns-in-164
-returns-in-164 c = (λ w fine. c.imm32-in-164.ensures ∙ (imm32_arm _ _ w _ fine 10 (row_a4 _ (sym c.code_at.ensures ∙ c.in-164.is))).1.0, rw c.imm32-in-164.ensures (imm32_arm _ _ _ _ c.requires.2.1 10 (row_a4 _ (sym c.code_at.ensures ∙ c.in-164.is))).1.1)
+unfolding form_of form_at
+returns-in-164 c = gives (imm32_arm c.args.frame.now c.args.values.now (read c.args.i) 10 (rw (← c.code.ensures, c.in-164.is))) c.requires c.imm32-in-164.ensures
 
 pub returns-in-220 : goal.returns-in-220
-returns-in-220 c = (λ w fine. c.swap_bytes.ensures ∙ (swap_arm _ _ w _ fine (row_dc _ (sym c.code_at.ensures ∙ c.in-220.is))).1.0, rw c.swap_bytes.ensures (swap_arm _ _ _ _ c.requires.2.1 (row_dc _ (sym c.code_at.ensures ∙ c.in-220.is))).1.1)
+unfolding form_of form_at
+returns-in-220 c = gives (swap_arm c.args.frame.now c.args.values.now (read c.args.i) (rw (← c.code.ensures, c.in-220.is))) c.requires c.swap_bytes.ensures
 
 pub returns-in-5 : goal.returns-in-5
-returns-in-5 c = (λ w fine. c.jump.ensures ∙ (jump_arm _ _ w _ fine (row_05 _ (sym c.code_at.ensures ∙ c.in-5.is))).0, rw c.jump.ensures (jump_arm _ _ _ _ c.requires.2.1 (row_05 _ (sym c.code_at.ensures ∙ c.in-5.is))).1)
+unfolding form_of form_at
+returns-in-5 c = gives (jump_arm c.args.frame.now c.args.values.now (read c.args.i) (rw (← c.code.ensures, c.in-5.is))) c.requires (ap Jumps c.off.ensures)
 
 pub returns-in-21 : goal.returns-in-21
-returns-in-21 c = (λ w fine. c.branch-program.ensures ∙ (branch_arm _ _ w _ fine 5 1 (row_15 _ (sym c.code_at.ensures ∙ c.in-21.is))).1.0, rw c.branch-program.ensures (branch_arm _ _ _ _ c.requires.2.1 5 1 (row_15 _ (sym c.code_at.ensures ∙ c.in-21.is))).1.1)
+unfolding form_of form_at
+returns-in-21 c = gives (branch_arm c.args.frame.now c.args.values.now (read c.args.i) 5 1 (rw (← c.code.ensures, c.in-21.is))) c.requires c.branch-i.ensures
 
 pub returns-in-37 : goal.returns-in-37
-returns-in-37 c = (λ w fine. c.branch-program-in-37.ensures ∙ (branch_arm _ _ w _ fine 5 2 (row_25 _ (sym c.code_at.ensures ∙ c.in-37.is))).1.0, rw c.branch-program-in-37.ensures (branch_arm _ _ _ _ c.requires.2.1 5 2 (row_25 _ (sym c.code_at.ensures ∙ c.in-37.is))).1.1)
+unfolding form_of form_at
+returns-in-37 c = gives (branch_arm c.args.frame.now c.args.values.now (read c.args.i) 5 2 (rw (← c.code.ensures, c.in-37.is))) c.requires c.branch-i-in-37.ensures
 
 pub returns-in-53 : goal.returns-in-53
-returns-in-53 c = (λ w fine. c.branch-program-in-53.ensures ∙ (branch_arm _ _ w _ fine 5 3 (row_35 _ (sym c.code_at.ensures ∙ c.in-53.is))).1.0, rw c.branch-program-in-53.ensures (branch_arm _ _ _ _ c.requires.2.1 5 3 (row_35 _ (sym c.code_at.ensures ∙ c.in-53.is))).1.1)
+unfolding form_of form_at
+returns-in-53 c = gives (branch_arm c.args.frame.now c.args.values.now (read c.args.i) 5 3 (rw (← c.code.ensures, c.in-53.is))) c.requires c.branch-i-in-53.ensures
 
 pub returns-in-69 : goal.returns-in-69
-returns-in-69 c = (λ w fine. c.branch-program-in-69.ensures ∙ (branch_arm _ _ w _ fine 5 4 (row_45 _ (sym c.code_at.ensures ∙ c.in-69.is))).1.0, rw c.branch-program-in-69.ensures (branch_arm _ _ _ _ c.requires.2.1 5 4 (row_45 _ (sym c.code_at.ensures ∙ c.in-69.is))).1.1)
+unfolding form_of form_at
+returns-in-69 c = gives (branch_arm c.args.frame.now c.args.values.now (read c.args.i) 5 4 (rw (← c.code.ensures, c.in-69.is))) c.requires c.branch-i-in-69.ensures
 
 pub returns-in-85 : goal.returns-in-85
-returns-in-85 c = (λ w fine. c.branch-program-in-85.ensures ∙ (branch_arm _ _ w _ fine 5 5 (row_55 _ (sym c.code_at.ensures ∙ c.in-85.is))).1.0, rw c.branch-program-in-85.ensures (branch_arm _ _ _ _ c.requires.2.1 5 5 (row_55 _ (sym c.code_at.ensures ∙ c.in-85.is))).1.1)
+unfolding form_of form_at
+returns-in-85 c = gives (branch_arm c.args.frame.now c.args.values.now (read c.args.i) 5 5 (rw (← c.code.ensures, c.in-85.is))) c.requires c.branch-i-in-85.ensures
 
 pub returns-in-165 : goal.returns-in-165
-returns-in-165 c = (λ w fine. c.branch-program-in-165.ensures ∙ (branch_arm _ _ w _ fine 5 10 (row_a5 _ (sym c.code_at.ensures ∙ c.in-165.is))).1.0, rw c.branch-program-in-165.ensures (branch_arm _ _ _ _ c.requires.2.1 5 10 (row_a5 _ (sym c.code_at.ensures ∙ c.in-165.is))).1.1)
+unfolding form_of form_at
+returns-in-165 c = gives (branch_arm c.args.frame.now c.args.values.now (read c.args.i) 5 10 (rw (← c.code.ensures, c.in-165.is))) c.requires c.branch-i-in-165.ensures
 
 pub returns-in-181 : goal.returns-in-181
-returns-in-181 c = (λ w fine. c.branch-program-in-181.ensures ∙ (branch_arm _ _ w _ fine 5 11 (row_b5 _ (sym c.code_at.ensures ∙ c.in-181.is))).1.0, rw c.branch-program-in-181.ensures (branch_arm _ _ _ _ c.requires.2.1 5 11 (row_b5 _ (sym c.code_at.ensures ∙ c.in-181.is))).1.1)
+unfolding form_of form_at
+returns-in-181 c = gives (branch_arm c.args.frame.now c.args.values.now (read c.args.i) 5 11 (rw (← c.code.ensures, c.in-181.is))) c.requires c.branch-i-in-181.ensures
 
 pub returns-in-22 : goal.returns-in-22
-returns-in-22 c = (λ w fine. c.branch-program-in-22.ensures ∙ (branch_arm _ _ w _ fine 6 1 (row_16 _ (sym c.code_at.ensures ∙ c.in-22.is))).1.0, rw c.branch-program-in-22.ensures (branch_arm _ _ _ _ c.requires.2.1 6 1 (row_16 _ (sym c.code_at.ensures ∙ c.in-22.is))).1.1)
+unfolding form_of form_at
+returns-in-22 c = gives (branch_arm c.args.frame.now c.args.values.now (read c.args.i) 6 1 (rw (← c.code.ensures, c.in-22.is))) c.requires c.branch-i-in-22.ensures
 
 pub returns-in-38 : goal.returns-in-38
-returns-in-38 c = (λ w fine. c.branch-program-in-38.ensures ∙ (branch_arm _ _ w _ fine 6 2 (row_26 _ (sym c.code_at.ensures ∙ c.in-38.is))).1.0, rw c.branch-program-in-38.ensures (branch_arm _ _ _ _ c.requires.2.1 6 2 (row_26 _ (sym c.code_at.ensures ∙ c.in-38.is))).1.1)
+unfolding form_of form_at
+returns-in-38 c = gives (branch_arm c.args.frame.now c.args.values.now (read c.args.i) 6 2 (rw (← c.code.ensures, c.in-38.is))) c.requires c.branch-i-in-38.ensures
 
 pub returns-in-54 : goal.returns-in-54
-returns-in-54 c = (λ w fine. c.branch-program-in-54.ensures ∙ (branch_arm _ _ w _ fine 6 3 (row_36 _ (sym c.code_at.ensures ∙ c.in-54.is))).1.0, rw c.branch-program-in-54.ensures (branch_arm _ _ _ _ c.requires.2.1 6 3 (row_36 _ (sym c.code_at.ensures ∙ c.in-54.is))).1.1)
+unfolding form_of form_at
+returns-in-54 c = gives (branch_arm c.args.frame.now c.args.values.now (read c.args.i) 6 3 (rw (← c.code.ensures, c.in-54.is))) c.requires c.branch-i-in-54.ensures
 
 pub returns-in-70 : goal.returns-in-70
-returns-in-70 c = (λ w fine. c.branch-program-in-70.ensures ∙ (branch_arm _ _ w _ fine 6 4 (row_46 _ (sym c.code_at.ensures ∙ c.in-70.is))).1.0, rw c.branch-program-in-70.ensures (branch_arm _ _ _ _ c.requires.2.1 6 4 (row_46 _ (sym c.code_at.ensures ∙ c.in-70.is))).1.1)
+unfolding form_of form_at
+returns-in-70 c = gives (branch_arm c.args.frame.now c.args.values.now (read c.args.i) 6 4 (rw (← c.code.ensures, c.in-70.is))) c.requires c.branch-i-in-70.ensures
 
 pub returns-in-86 : goal.returns-in-86
-returns-in-86 c = (λ w fine. c.branch-program-in-86.ensures ∙ (branch_arm _ _ w _ fine 6 5 (row_56 _ (sym c.code_at.ensures ∙ c.in-86.is))).1.0, rw c.branch-program-in-86.ensures (branch_arm _ _ _ _ c.requires.2.1 6 5 (row_56 _ (sym c.code_at.ensures ∙ c.in-86.is))).1.1)
+unfolding form_of form_at
+returns-in-86 c = gives (branch_arm c.args.frame.now c.args.values.now (read c.args.i) 6 5 (rw (← c.code.ensures, c.in-86.is))) c.requires c.branch-i-in-86.ensures
 
 pub returns-in-166 : goal.returns-in-166
-returns-in-166 c = (λ w fine. c.branch-program-in-166.ensures ∙ (branch_arm _ _ w _ fine 6 10 (row_a6 _ (sym c.code_at.ensures ∙ c.in-166.is))).1.0, rw c.branch-program-in-166.ensures (branch_arm _ _ _ _ c.requires.2.1 6 10 (row_a6 _ (sym c.code_at.ensures ∙ c.in-166.is))).1.1)
+unfolding form_of form_at
+returns-in-166 c = gives (branch_arm c.args.frame.now c.args.values.now (read c.args.i) 6 10 (rw (← c.code.ensures, c.in-166.is))) c.requires c.branch-i-in-166.ensures
 
 pub returns-in-182 : goal.returns-in-182
-returns-in-182 c = (λ w fine. c.branch-program-in-182.ensures ∙ (branch_arm _ _ w _ fine 6 11 (row_b6 _ (sym c.code_at.ensures ∙ c.in-182.is))).1.0, rw c.branch-program-in-182.ensures (branch_arm _ _ _ _ c.requires.2.1 6 11 (row_b6 _ (sym c.code_at.ensures ∙ c.in-182.is))).1.1)
+unfolding form_of form_at
+returns-in-182 c = gives (branch_arm c.args.frame.now c.args.values.now (read c.args.i) 6 11 (rw (← c.code.ensures, c.in-182.is))) c.requires c.branch-i-in-182.ensures
 
 pub returns-in-45 : goal.returns-in-45
-returns-in-45 c = (λ w fine. c.branch_reg.ensures ∙ (branch_reg_arm _ _ w _ fine 2 (row_2d _ (sym c.code_at.ensures ∙ c.in-45.is))).1.0, rw c.branch_reg.ensures (branch_reg_arm _ _ _ _ c.requires.2.1 2 (row_2d _ (sym c.code_at.ensures ∙ c.in-45.is))).1.1)
+unfolding form_of form_at
+returns-in-45 c = gives (branch_reg_arm c.args.frame.now c.args.values.now (read c.args.i) 2 (rw (← c.code.ensures, c.in-45.is))) c.requires c.branch_reg.ensures
 
 pub returns-in-149 : goal.returns-in-149
-returns-in-149 c = (λ w fine. c.leave.ensures ∙ (exit_arm _ _ w _ fine (row_95 _ (sym c.code_at.ensures ∙ c.in-149.is))).0, rw c.leave.ensures (exit_arm _ _ _ _ c.requires.2.1 (row_95 _ (sym c.code_at.ensures ∙ c.in-149.is))).1)
+unfolding form_of form_at
+returns-in-149 c = gives (exit_arm c.args.frame.now c.args.values.now (read c.args.i) (rw (← c.code.ensures, c.in-149.is))) c.requires c.leave.ensures
 
-pub returns-in_default : goal.returns-in_default
-returns-in_default c = (λ w fine. absurd (not_none _ _ w _ fine (row_none _ (λ q. c.in_default.in_default-own.rest.0.0.0.0.0.0.0.0.0.0.0.0.0.0.0.0.0.0.0.0.0.0.0.0.0.0.0.0.0.0.0.0.0.0.1 (c.code_at.ensures ∙ q)) (λ q. c.in_default.in_default-own.rest.0.0.0.0.0.0.0.0.0.0.0.0.0.0.0.0.0.0.0.0.0.0.0.0.0.0.0.0.0.0.0.0.0.1 (c.code_at.ensures ∙ q)) (λ q. c.in_default.in_default-own.rest.0.0.0.0.0.0.0.0.0.0.0.0.0.0.0.0.0.0.0.0.0.0.0.0.0.0.0.0.0.0.0.0.1 (c.code_at.ensures ∙ q)) (λ q. c.in_default.in_default-own.rest.0.0.0.0.0.0.0.0.0.0.0.0.0.0.0.0.0.0.0.0.0.0.0.0.0.0.0.0.0.0.0.1 (c.code_at.ensures ∙ q)) (λ q. c.in_default.in_default-own.rest.0.0.0.0.0.0.0.0.0.0.0.0.0.0.0.0.0.0.0.0.0.0.0.0.0.0.0.0.0.0.1 (c.code_at.ensures ∙ q)) (λ q. c.in_default.in_default-own.rest.0.0.0.0.0.0.0.0.0.0.0.0.0.0.0.0.0.0.0.0.0.0.0.0.0.0.0.0.0.1 (c.code_at.ensures ∙ q)) (λ q. c.in_default.in_default-own.rest.0.0.0.0.0.0.0.0.0.0.0.0.0.0.0.0.0.0.0.0.0.0.0.0.0.0.0.0.1 (c.code_at.ensures ∙ q)) (λ q. c.in_default.in_default-own.rest.0.0.0.0.0.0.0.0.0.0.0.0.0.0.0.0.0.0.0.0.0.0.0.0.0.0.0.1 (c.code_at.ensures ∙ q)) (λ q. c.in_default.in_default-own.rest.0.0.0.0.0.0.0.0.0.0.0.0.0.0.0.0.0.0.0.0.0.0.0.0.0.0.1 (c.code_at.ensures ∙ q)) (λ q. c.in_default.in_default-own.rest.0.0.0.0.0.0.0.0.0.0.0.0.0.0.0.0.0.0.0.0.0.0.0.0.0.1 (c.code_at.ensures ∙ q)) (λ q. c.in_default.in_default-own.rest.0.0.0.0.0.0.0.0.0.0.0.0.0.0.0.0.0.0.0.0.0.0.0.0.1 (c.code_at.ensures ∙ q)) (λ q. c.in_default.in_default-own.rest.0.0.0.0.0.0.0.0.0.0.0.0.0.0.0.0.0.0.0.0.0.0.0.1 (c.code_at.ensures ∙ q)) (λ q. c.in_default.in_default-own.rest.0.0.0.0.0.0.0.0.0.0.0.0.0.0.0.0.0.0.0.0.0.0.1 (c.code_at.ensures ∙ q)) (λ q. c.in_default.in_default-own.rest.0.0.0.0.0.0.0.0.0.0.0.0.0.0.0.0.0.0.0.0.0.1 (c.code_at.ensures ∙ q)) (λ q. c.in_default.in_default-own.rest.0.0.0.0.0.0.0.0.0.0.0.0.0.0.0.0.0.0.0.0.1 (c.code_at.ensures ∙ q)) (λ q. c.in_default.in_default-own.rest.0.0.0.0.0.0.0.0.0.0.0.0.0.0.0.0.0.0.0.1 (c.code_at.ensures ∙ q)) (λ q. c.in_default.in_default-own.rest.0.0.0.0.0.0.0.0.0.0.0.0.0.0.0.0.0.0.1 (c.code_at.ensures ∙ q)) (λ q. c.in_default.in_default-own.rest.0.0.0.0.0.0.0.0.0.0.0.0.0.0.0.0.0.1 (c.code_at.ensures ∙ q)) (λ q. c.in_default.in_default-own.rest.0.0.0.0.0.0.0.0.0.0.0.0.0.0.0.0.1 (c.code_at.ensures ∙ q)) (λ q. c.in_default.in_default-own.rest.0.0.0.0.0.0.0.0.0.0.0.0.0.0.0.1 (c.code_at.ensures ∙ q)) (λ q. c.in_default.in_default-own.rest.0.0.0.0.0.0.0.0.0.0.0.0.0.0.1 (c.code_at.ensures ∙ q)) (λ q. c.in_default.in_default-own.rest.0.0.0.0.0.0.0.0.0.0.0.0.0.1 (c.code_at.ensures ∙ q)) (λ q. c.in_default.in_default-own.rest.0.0.0.0.0.0.0.0.0.0.0.0.1 (c.code_at.ensures ∙ q)) (λ q. c.in_default.in_default-own.rest.0.0.0.0.0.0.0.0.0.0.0.1 (c.code_at.ensures ∙ q)) (λ q. c.in_default.in_default-own.rest.0.0.0.0.0.0.0.0.0.0.1 (c.code_at.ensures ∙ q)) (λ q. c.in_default.in_default-own.rest.0.0.0.0.0.0.0.0.0.1 (c.code_at.ensures ∙ q)) (λ q. c.in_default.in_default-own.rest.0.0.0.0.0.0.0.0.1 (c.code_at.ensures ∙ q)) (λ q. c.in_default.in_default-own.rest.0.0.0.0.0.0.0.1 (c.code_at.ensures ∙ q)) (λ q. c.in_default.in_default-own.rest.0.0.0.0.0.0.1 (c.code_at.ensures ∙ q)) (λ q. c.in_default.in_default-own.rest.0.0.0.0.0.1 (c.code_at.ensures ∙ q)) (λ q. c.in_default.in_default-own.rest.0.0.0.0.1 (c.code_at.ensures ∙ q)) (λ q. c.in_default.in_default-own.rest.0.0.0.1 (c.code_at.ensures ∙ q)) (λ q. c.in_default.in_default-own.rest.0.0.1 (c.code_at.ensures ∙ q)) (λ q. c.in_default.in_default-own.rest.0.1 (c.code_at.ensures ∙ q)) (λ q. c.in_default.in_default-own.rest.1 (c.code_at.ensures ∙ q)))), rw c.leave-in_default.ensures tt)
+pub unreachable-requires : goal.unreachable-requires
+unfolding form_of form_at
+unreachable-requires c = not_none c.args.frame.now c.args.values.now c.requires.0 (read c.args.i) c.requires.1 (grind (arith, common_steps))

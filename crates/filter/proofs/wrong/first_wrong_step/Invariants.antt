@@ -1,12 +1,10 @@
-use Rattle.filter.specs.First.{first}
+-- Byte j begins a step, and no byte before it is wrong.
+use Rattle.std.proofs.Common.{◌≡◌, ℕ, ◌%◌, ◌<◌, false}
 use Rattle.filter.specs.Wrong.{step_wrong}
-use mathlib.Core.Path.{◌≡◌}
-use Prim.Native.Nat.{◌%◌, ◌≤◌, ◌-◌}
 use Rattle.filter.proofs.wrong.first_wrong_step.Given as goal
 
--- Byte j begins a step, and no byte before it is wrong: what is left to look at has the same lowest wrong byte as the whole.
 abbrev pub invariant-loop-j : goal.invariant-loop-j
-invariant-loop-j l = (l.j ≤ l.n) × (l.j % 5 ≡ 0) × (first (step_wrong l.part) l.n 0 ≡ first (step_wrong l.part) (l.n - l.j) l.j)
-
-abbrev pub decreases-loop-j : goal.decreases-loop-j
-decreases-loop-j l = l.n - l.j
+invariant-loop-j l = record {
+  begins : l.j % 5 ≡ 0;
+  below : (k : ℕ) → k < l.j → step_wrong l.part k ≡ false;
+}

@@ -4,4 +4,4 @@ use Rattle.pieces.proofs.load.end_of.Goals as goal
 
 pub returns : goal.returns
 unfolding end_of
-returns c = simp (c.wrapping_add_u32.ensures.value, c.size_bytes.ensures)
+returns c = simp (c.from.ensures, c.bytes.ensures)

@@ -1,12 +1,7 @@
 -- The mode picks the class.
-use Rattle.pieces.specs.Fragments.{class_of}
-use Rattle.std.proofs.Common.{eq-eqb, ne_eqb}
+use Rattle.ebpf.specs.Opcode.{JEQ}
+use Rattle.pieces.proofs.Pieces.{by_class}
 use Rattle.pieces.proofs.load.jeq.Goals as goal
 
-pub returns-then-mode-eq0 : goal.returns-then-mode-eq0
-unfolding class_of
-returns-then-mode-eq0 c = simp (c.jeq_imm.ensures, eq-eqb _ _ c.if-mode-eq0.true)
-
-pub returns-else-mode-eq0 : goal.returns-else-mode-eq0
-unfolding class_of
-returns-else-mode-eq0 c = simp (c.jeq32_imm.ensures, ne_eqb _ _ c.if-mode-eq0.false)
+pub returns : goal.returns
+returns c = rw (c.by_mode.ensures, c.jeq_imm.ensures, c.jeq32_imm.ensures) (by_class c.args.mode JEQ c.args.k)

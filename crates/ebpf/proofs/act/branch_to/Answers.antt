@@ -1,8 +1,0 @@
--- The test decides.
-use Rattle.ebpf.proofs.act.branch_to.Goals as goal
-
-pub returns-then-holds : goal.returns-then-holds
-returns-then-holds c = rw c.if-holds.true
-
-pub returns-else-holds : goal.returns-else-holds
-returns-else-holds c = rw c.if-holds.false

@@ -1,0 +1,9 @@
+-- `save` writes the three numbers of a pending operator.
+use Rattle.std.proofs.Common.{refl}
+use Rattle.patches.specs.Code.{emission}
+use Rattle.patches.specs.Lists.{save_at}
+use Rattle.patches.proofs.Codegen.save.Goals as goal
+
+pub returns : goal.returns
+unfolding emission save_at
+returns c = refl

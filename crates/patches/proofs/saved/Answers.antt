@@ -1,8 +1,0 @@
--- `saved` reads the list of a pending operator.
-use mathlib.Core.Path.{refl}
-use Rattle.patches.specs.Lists.{saved_at}
-use Rattle.patches.proofs.saved.Goals as goal
-
-pub returns : goal.returns
-unfolding saved_at
-returns c = refl

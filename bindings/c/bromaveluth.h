@@ -29,14 +29,14 @@
  * It is measured and not proved. A program that binds memset lazily needs what its loader takes at the first call as well.
  *   function                   one primitive    any filter
  *   bromaveluth_version                    8             8
- *   bromaveluth_measure                  616           616
- *   bromaveluth_compile                1,288         1,288
- *   bromaveluth_evaluate                 752        78,272
- *   bromaveluth_run                      136           136
- *   bromaveluth_nots                     248        32,976
- *   bromaveluth_capture_open              48            48
- *   bromaveluth_capture                1,592         1,592
- *   bromaveluth_capture_part           1,608         1,608
+ *   bromaveluth_measure                  552           552
+ *   bromaveluth_compile                1,096         1,096
+ *   bromaveluth_evaluate                 832        49,792
+ *   bromaveluth_run                      144           144
+ *   bromaveluth_nots                     304        24,880
+ *   bromaveluth_capture_open              64            64
+ *   bromaveluth_capture                1,400         1,400
+ *   bromaveluth_capture_part           1,416         1,416
  */
 #ifndef BROMAVELUTH_H
 #define BROMAVELUTH_H

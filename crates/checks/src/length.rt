@@ -177,6 +177,8 @@ pub fn size_of(link: LinkType, steps: &[u8], from: u32, prim: Primitive) -> u32
 }
 
 // What the first n primitives add to L. The part and n stay two: the promise holds for any n, also where the part has fewer or more.
+// Not inlined: `measure` would hold on its stack, while the sheet is checked, what this needs afterwards.
+#[inline(never)]
 pub fn sizes_of(link: LinkType, steps: &[u8], prims: &[u8], n: u16) -> u64
     ensures { (result ≡ sizes_of link steps.now prims.now n) × (result ≤ 4294967296 * n) }
 {

@@ -43,8 +43,8 @@ pub fn find_sections(sheet: &[u8]) -> Option<Counts>
 fn part(sheet: &[u8], from: usize, to: usize) -> &[u8]
     ensures { result.now ≡ part sheet.now from to }
 {
-    let rest = &sheet[from.min(sheet.len())..];
-    &rest[..to.saturating_sub(from).min(rest.len())]
+    let end = to.min(sheet.len());
+    &sheet[from.min(end)..end]
 }
 
 impl Counts {

@@ -14,7 +14,8 @@ use filter::record::primitive_at;
 use filter::sheet::Sections;
 use refusals::Refusal;
 
-// The first of b primitives that earns one of 11 to 19, else what the tree says.
+// The first of b primitives that earns one of 11 to 19, else what the tree says. Not inlined: the walk over the tree would stand on what it holds.
+#[inline(never)]
 fn refused_or(link: LinkType, parts: Sections, b: u16, holds: bool) -> Result<bool, Refusal>
     ensures { told result ≡ refused_or link parts.entry.steps.now parts.entry.prims.now b holds }
 {
@@ -39,7 +40,7 @@ fn judge(link: LinkType, parts: Sections, b: u16, frame: &[u8]) -> Result<bool, 
         prim: 0,
         step: 0,
     };
-    let root = eval_at(link, parts, frame, b, start, 256)?;
+    let root = eval_at(link, &parts, frame, b, start, 256)?;
     refused_or(link, parts, b, root.holds)
 }
 

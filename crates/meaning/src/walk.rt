@@ -35,16 +35,17 @@ fn join_bool(t: u8, a: bool, b: bool) -> bool
     if t == 1 { a && b } else { a || b }
 }
 
-// The next primitive, of `count`, whose token is read already.
+// The next primitive, of `count`, whose token is read already. Not inlined: what it holds would lie on the stack at every level of the tree.
+#[inline(never)]
 fn leaf_at(
     link: LinkType,
-    parts: Sections,
+    parts: &Sections,
     frame: &[u8],
     count: u16,
     spot: Spot,
 ) -> Result<Judged, Refusal>
-    requires { (spot.step ≡ steps_before parts.prims.now spot.prim) × (steps_before parts.prims.now count < 2 ^ 32) }
-    ensures { told result ≡ leaf_of (primitive_holds link parts.entry.steps.now parts.entry.prims.now frame.now) (steps_before parts.entry.prims.now) count spot.token spot.prim }
+    requires { (spot.step ≡ steps_before parts.now.prims.now spot.prim) × (steps_before parts.now.prims.now count < 2 ^ 32) }
+    ensures { told result ≡ leaf_of (primitive_holds link parts.now.steps.now parts.now.prims.now frame.now) (steps_before parts.now.prims.now) count spot.token spot.prim }
 {
     let k = spot.prim;
     if u32::from(count) <= k {
@@ -64,14 +65,14 @@ fn leaf_at(
 // The tree that begins at the spot, of at most `depth` levels; 9 if it is deeper, and 4, which is never met where the tokens are one tree.
 pub(crate) fn eval_at(
     link: LinkType,
-    parts: Sections,
+    parts: &Sections,
     frame: &[u8],
     count: u16,
     spot: Spot,
     depth: u16,
 ) -> Result<Judged, Refusal>
-    requires { (spot.step ≡ steps_before parts.prims.now spot.prim) × (steps_before parts.prims.now count < 2 ^ 32) }
-    ensures { told result ≡ eval_at (primitive_holds link parts.entry.steps.now parts.entry.prims.now frame.now) (steps_before parts.entry.prims.now) count depth parts.entry.tokens.now spot.token spot.prim }
+    requires { (spot.step ≡ steps_before parts.now.prims.now spot.prim) × (steps_before parts.now.prims.now count < 2 ^ 32) }
+    ensures { told result ≡ eval_at (primitive_holds link parts.now.steps.now parts.now.prims.now frame.now) (steps_before parts.now.prims.now) count depth parts.now.tokens.now spot.token spot.prim }
 {
     if depth == 0 {
         return Err(Reason::DeepTree.at(0));

@@ -113,6 +113,16 @@ fn denied(tokens: &[u8], at: usize, output: &mut [u8], to: usize) -> Reached
     denied(tokens, mid.token, output, mid.to)
 }
 
+// The first n bytes of the sheet. A `for`: `copy_from_slice` calls memmove, a name that the archive would need from outside.
+fn copy_front(sheet: &[u8], n: usize, output: &mut [u8])
+    requires { (n ≤ length sheet.now) × (n ≤ length output.old) }
+    ensures { output.new ≡ take n sheet.now ++ drop n output.old }
+{
+    for i in 0..n {
+        output[i] = sheet[i];
+    }
+}
+
 // The new sheet: the front, the count of its tokens, and the turned tree.
 fn write_sheet(sheet: &[u8], front: usize, size: usize, tokens: &[u8], output: &mut [u8])
     requires front_in_bounds { (front ≤ length sheet.now) × (size < 65536) }
@@ -120,7 +130,7 @@ fn write_sheet(sheet: &[u8], front: usize, size: usize, tokens: &[u8], output: &
     requires size_in_bounds { front + size + 2 ≤ length output.old }
     ensures { output.new ≡ written (take front sheet.now) (wanted_at tokens.now 0) ++ drop (front + size + 2) output.old }
 {
-    output[..front].copy_from_slice(&sheet[..front]);
+    copy_front(sheet, front, output);
     output[front] = (size / 256) as u8;
     output[front + 1] = (size % 256) as u8;
     wanted(tokens, 0, output, front + 2);

@@ -19,8 +19,14 @@ push_success = unique (plain _) (λ κs a r r' ws ws' p q. (refl, λ i. (same_co
 pub push_failure : Unique crate.Codegen.push_failure.ended (λ M 𝓤 𝓛. crate.Codegen.push_failure.clauses 𝓛)
 push_failure = unique (plain _) (λ κs a r r' ws ws' p q. (refl, λ i. (same_code (p ∙ sym q) i, (tt, tt))))
 
-pub save : Unique crate.Codegen.save.ended (λ M 𝓤 𝓛. crate.Codegen.save.clauses 𝓛)
-save = unique (plain _) (λ κs a r r' ws ws' p q. (refl, λ i. (same_code (p ∙ sym q) i, (tt, (tt, (tt, tt))))))
+pub Codegen-save : Unique crate.Codegen.save.ended (λ M 𝓤 𝓛. crate.Codegen.save.clauses 𝓛)
+Codegen-save = unique (plain _) (λ κs a r r' ws ws' p q. (refl, λ i. (same_code (p ∙ sym q) i, (tt, (tt, (tt, tt))))))
 
-pub resolve_all : Unique crate.Codegen.resolve_all.ended (λ M 𝓤 𝓛. crate.Codegen.resolve_all.clauses 𝓛)
-resolve_all = unique (beside _ (plain _)) (λ κs a r r' ws ws' p q. (p.0 ∙ sym q.0, λ i. (same_code (p.1 ∙ sym q.1) i, (tt, (tt, (tt, tt))))))
+pub Codegen-resolve_all : Unique crate.Codegen.resolve_all.ended (λ M 𝓤 𝓛. crate.Codegen.resolve_all.clauses 𝓛)
+Codegen-resolve_all = unique (beside _ (plain _)) (λ κs a r r' ws ws' p q. (p.0 ∙ sym q.0, λ i. (same_code (p.1 ∙ sym q.1) i, (tt, (tt, (tt, tt))))))
+
+pub resolve_all : Unique crate.resolve_all.ended (λ M 𝓤 𝓛. crate.resolve_all.clauses 𝓛)
+resolve_all = unique (beside _ (plain _)) (λ κs a r r' ws ws' p q. (p.0 ∙ sym q.0, λ i. ((p.1 ∙ sym q.1) i, (tt, (tt, (tt, (tt, tt)))))))
+
+pub save : Unique crate.save.ended (λ M 𝓤 𝓛. crate.save.clauses 𝓛)
+save = unique (plain _) (λ κs a r r' ws ws' p q. (refl, λ i. ((p ∙ sym q) i, (tt, (tt, (tt, tt))))))

@@ -1,5 +1,6 @@
 // Patch bookkeeping of ebpf_codegen.rs: instructions with open jumps in lent bytes, the lists of these jumps and the
-// operators that wait in lent numbers. Seven methods are `pub`, for the crates of the generator; each caller shows what they ask.
+// operators that wait in lent numbers. Seven methods are `pub`, and the two functions beneath two of them, which ask for less;
+// they are for the crates of the generator, and each caller shows what they ask.
 #![tactic(auto)]
 
 ghost use Rattle.std.specs.Prelude.{◌≡◌, ◌+◌, ◌*◌, ◌^◌, ◌<◌, ◌≤◌, length, set};
@@ -91,7 +92,7 @@ enum Closed {
     Stay,
 }
 
-// The one place that sets a jump's distance.
+// The one place that sets the distance of an open jump.
 #[tactic(auto, unfolding(crate::specs::Chain::put_off))]
 fn put_off(out: &mut [u8], p: usize, distance: usize)
     requires { (8 * p + 8 ≤ length out.old) × (distance < 65536) }
@@ -100,6 +101,60 @@ fn put_off(out: &mut [u8], p: usize, distance: usize)
     let [low, high] = (distance as u16).to_le_bytes();
     out[8 * p + 2] = low;
     out[8 * p + 3] = high;
+}
+
+// Every jump of the list goes to the target, the last first. The numbers of `work` are read alone: who has them shared can call it.
+pub fn resolve_all(
+    out: &mut [u8],
+    work: &[u32],
+    l: usize,
+    head: usize,
+    target: usize,
+) -> Result<(), TooFar>
+    requires descends { Descends l work.now }
+    requires l_in_bounds { (l ≤ length work.now) × (head ≤ l) × (head ≤ target) × (8 * l ≤ length out.old) }
+    ensures value { result ≡ reach target (chain_of work.now head) }
+    ensures out_after { out.new ≡ resolved target (chain_of work.now head) out.old }
+{
+    let mut head = head;
+    // A while: the next place is the link just read.
+    while 0 < head {
+        let distance = target - head;
+        if 32767 < distance {
+            return Err(TooFar);
+        }
+        let p = head - 1;
+        put_off(out, p, distance);
+        head = work[p] as usize;
+    }
+    Ok(())
+}
+
+// The same where both are lent alone, as a `Codegen` has them.
+fn resolve_in(
+    out: &mut [u8],
+    work: &mut [u32],
+    l: usize,
+    head: usize,
+    target: usize,
+) -> Result<(), TooFar>
+    requires descends { Descends l work.old }
+    requires l_in_bounds { (l ≤ length work.old) × (head ≤ l) × (head ≤ target) × (8 * l ≤ length out.old) }
+    ensures value { result ≡ reach target (chain_of work.old head) }
+    ensures out_after { out.new ≡ resolved target (chain_of work.old head) out.old }
+    ensures work_unchanged { work.new ≡ work.old }
+{
+    resolve_all(out, work, l, head, target)
+}
+
+// A pending operator at `base`: what it waits for, and the list that it keeps.
+pub fn save(work: &mut [u32], base: usize, op: u32, kept: PatchList)
+    requires { base + 3 ≤ length work.old }
+    ensures { work.new ≡ save_at work.old base op kept }
+{
+    work[base] = op;
+    work[base + 1] = kept.head;
+    work[base + 2] = kept.tail;
 }
 
 // Number p of `work`; where there is none, nothing.
@@ -189,18 +244,7 @@ impl Codegen<'_> {
         ensures value { result ≡ reach target (chain_of self.old.work.now head) }
         ensures out_after { emission self.new ≡ with_out (resolved target (chain_of self.old.work.now head) self.old.out.now) (emission self.old) }
     {
-        let mut head = head;
-        // A while: the next place is the link just read.
-        while 0 < head {
-            let distance = target - head;
-            if 32767 < distance {
-                return Err(TooFar);
-            }
-            let p = head - 1;
-            put_off(self.out, p, distance);
-            head = self.work[p] as usize;
-        }
-        Ok(())
+        resolve_in(self.out, self.work, l, head, target)
     }
 
     // The list that the pending operator at `base` keeps.
@@ -219,9 +263,7 @@ impl Codegen<'_> {
         requires { base + 3 ≤ length self.old.work.now }
         ensures { emission self.new ≡ with_work (save_at self.old.work.now base op kept) (emission self.old) }
     {
-        self.work[base] = op;
-        self.work[base + 1] = kept.head;
-        self.work[base + 2] = kept.tail;
+        save(self.work, base, op, kept);
     }
 
     // Successes and failures change places.

@@ -144,7 +144,8 @@ fn evaluate_case<R: Read, W: Write>(
     let sheet = read_part(from, room.bytes)?;
     let frame = read_part(from, room.frame)?;
     match evaluate(sheet, link, frame) {
-        Ok(holds) => writeln!(out, "0 {}", holds as u8)?,
+        // The line whole, in one write.
+        Ok(holds) => out.write_all(if holds { b"0 1\n" } else { b"0 0\n" })?,
         Err(refusal) => print_refusal(out, refusal)?,
     }
     Ok(())

@@ -13,13 +13,19 @@ use refusals::Reason;
 use std::io;
 use std::io::Write;
 
-// The program's length, then each instruction's eight bytes in hex on a line.
+const DIGITS: [u8; 16] = *b"0123456789abcdef";
+
+// The program's length, then each instruction's eight bytes in hex on a line. Digit by digit: `write!` of a number makes a long listing take a third more time.
 fn print_program<W: Write>(out: &mut W, code: &[u8]) -> io::Result<()> {
     let (insns, _) = code.as_chunks::<8>();
     writeln!(out, "0 {}", insns.len())?;
     for insn in insns {
         let mut line = [b'\n'; 17];
-        write!(&mut line[..16], "{:016x}", u64::from_be_bytes(*insn))?;
+        for i in 0..8 {
+            let byte = usize::from(insn[i]);
+            line[2 * i] = DIGITS[byte / 16];
+            line[2 * i + 1] = DIGITS[byte % 16];
+        }
         out.write_all(&line)?;
     }
     Ok(())
@@ -62,24 +68,24 @@ fn ethertype_at(sheet: &[u8], place: usize) -> u16 {
 // The Rust's message, if the refusal has one; 11 names the ethertype that was refused.
 fn print_message<W: Write>(out: &mut W, reason: Reason, et: u16) -> io::Result<()> {
     let text = match reason {
-        Reason::FarJump => "filter expression is too complex: eBPF jump offset overflow",
+        Reason::FarJump => "filter expression is too complex: eBPF jump offset overflow\n",
         Reason::NoEthertype => {
             return writeln!(
                 out,
                 "ethertype 0x{et:04x} cannot be matched on RawIp captures"
             );
         }
-        Reason::NoEtherHost => "ether host cannot be used with RawIp link type",
-        Reason::NoEtherMulticast => "ether multicast cannot be used with RawIp link type",
-        Reason::NoMpls => "mpls cannot be matched on RawIp captures",
-        Reason::NoDirection => "inbound/outbound direction cannot be expressed in eBPF",
+        Reason::NoEtherHost => "ether host cannot be used with RawIp link type\n",
+        Reason::NoEtherMulticast => "ether multicast cannot be used with RawIp link type\n",
+        Reason::NoMpls => "mpls cannot be matched on RawIp captures\n",
+        Reason::NoDirection => "inbound/outbound direction cannot be expressed in eBPF\n",
         Reason::ComparedWithLoad =>
-            "expr-vs-expr byte-access comparison is not yet supported for eBPF targets",
-        Reason::DivisionByZero => "division by zero in byte-access expression",
-        Reason::Modulo => "modulo (%) is not supported in eBPF byte-access expressions",
+            "expr-vs-expr byte-access comparison is not yet supported for eBPF targets\n",
+        Reason::DivisionByZero => "division by zero in byte-access expression\n",
+        Reason::Modulo => "modulo (%) is not supported in eBPF byte-access expressions\n",
         _ => return Ok(()),
     };
-    writeln!(out, "{text}")
+    out.write_all(text.as_bytes())
 }
 
 // `compile`, and its answer printed to `out`. What `output` and `work` hold does not depend on whether a write fails.

@@ -14,7 +14,7 @@ returns-then-from-k c = rw (le-ltb c.args.spot.prim c.args.count (omega arith), 
 pub overflow_add-next-2 : goal.overflow_add-next-2
 overflow_add-next-2 c =
     let a = c.args in
-    let s = a.parts.prims.now in
+    let s = a.parts.now.prims.now in
     let more : steps_before s (a.spot.prim + 1) ≤ steps_before s a.count = before_grows s (a.spot.prim + 1) a.count (omega arith) in
     omega (arith, before_more s a.spot.prim)
 
@@ -22,7 +22,7 @@ pub returns : goal.returns
 unfolding leaf_of primitive_holds
 returns c =
     let a = c.args in
-    let s = a.parts.prims.now in
+    let s = a.parts.now.prims.now in
     let first = c.requires.0 in
     let step : a.spot.step + c.from-taken.result ≡ steps_before s (a.spot.prim + 1) = omega (arith, before_more s a.spot.prim) in
     rw (lt-ltb a.spot.prim a.count (omega arith), ← step, ← first, ← c.primitive_at-prim.ensures, ← c.means-holds.ensures)

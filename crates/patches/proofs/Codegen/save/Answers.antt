@@ -1,9 +1,7 @@
--- `save` writes the three numbers of a pending operator.
-use Rattle.std.proofs.Common.{refl}
-use Rattle.patches.specs.Code.{emission}
-use Rattle.patches.specs.Lists.{save_at}
+use Rattle.std.proofs.Common.{ℕ, List, ap}
+use Rattle.patches.specs.Code.{emission, with_work}
 use Rattle.patches.proofs.Codegen.save.Goals as goal
 
 pub returns : goal.returns
-unfolding emission save_at
-returns c = refl
+unfolding emission
+returns c = ap (λ (work : List ℕ). with_work work (emission c.args.self.now)) c.save.ensures
